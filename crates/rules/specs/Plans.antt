@@ -1,4 +1,5 @@
 -- What a game's rules say of each list of codes, and the laws of it.
+--   is-open      whether a status is open
 --   RulesPlan    which lists of codes are legal; the status and who has a chance after a legal one
 --   after-codes  the rest of a plan once some codes are made
 --   made         the same for one code, but that an illegal one changes nothing
@@ -17,6 +18,11 @@ use Rattle.std.specs.Orderings.{Decides}
 use Rattle.side.specs.declared.Side.{Side}
 use Rattle.rules.specs.declared.Status.{Status}
 use Rattle.rules.specs.declared.Status.the-variants.{Open, Won, Drawn}
+
+abbrev pub is-open : Status → Bool
+is-open Open = true
+is-open (Won s) = false
+is-open Drawn = false
 
 pub record RulesPlan : Type 0 where
   pub legal : List ℕ → Bool

@@ -1,13 +1,8 @@
-use mathlib.Core.Path.{_≡_, refl, sym, ap, _∙_}
-use mathlib.Core.Bool.{Bool, true, false, not}
-use mathlib.Core.List.{[]}
+use mathlib.Core.Path.{sym, ap, _∙_}
+use mathlib.Core.Bool.{not}
+use Rattle.std.proofs.shelf.Tests.{not-true}
 use Rattle.rules.proofs.Dead.{no-win}
 use Rattle.rules.proofs.is_dead.Needs as need
-
--- a negation that is true is of what is false
-not-true : (b : Bool) → not b ≡ true → b ≡ false
-not-true true h = cc
-not-true false h = refl
 
 pub returns : need.returns
 returns g c =

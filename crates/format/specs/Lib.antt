@@ -1,0 +1,4 @@
+pub mod Layout
+pub mod Requirements
+pub mod Promises
+pub mod Laid
