@@ -1,0 +1,4 @@
+pub mod Movements
+pub mod Kinds
+pub mod Laws
+pub mod Samples
