@@ -1,0 +1,3 @@
+pub mod Stones
+pub mod Game
+pub mod Facts
