@@ -1,0 +1,4 @@
+// The banks on examples.
+mod crowd;
+#[cfg(test)]
+mod tests;
