@@ -17,7 +17,7 @@ use Rattle.format.specs.Layout.{Content, encode, head, pair, pairs, half, word
 use Rattle.format.specs.Laid.{laid, written, word-size, write-refusal}
 use Rattle.format.proofs.Back.{length-encode, length-turn-bytes}
 
-pub length-laid : (b : List ℕ) (p : ℕ) (xs : List ℕ) → p + length xs ≤ length b → length (laid b p xs) ≡ length b
+pub length-laid : {A : Type 0} (b : List A) (p : ℕ) (xs : List A) → p + length xs ≤ length b → length (laid b p xs) ≡ length b
 length-laid b p xs h =
     let a = length-append (take p b) (xs ++ drop (p + length xs) b) in
     let d = length-append xs (drop (p + length xs) b) in
@@ -26,8 +26,8 @@ length-laid b p xs h =
     omega arith
 
 -- two parts, one right after the other
-pub laid-on : (b : List ℕ) (p : ℕ) (xs ys : List ℕ) → p + length xs + length ys ≤ length b → laid (laid b p xs) (p + length xs) ys ≡ laid b p (xs ++ ys)
-laid-on b p xs ys h =
+pub laid-on : {A : Type 0} (b : List A) (p : ℕ) (xs ys : List A) → p + length xs + length ys ≤ length b → laid (laid b p xs) (p + length xs) ys ≡ laid b p (xs ++ ys)
+laid-on {A} b p xs ys h =
     let e = length-take-le p b (omega arith) in
     let rest = drop (p + length xs) b in
     let front = take p b ++ xs in
@@ -40,9 +40,9 @@ laid-on b p xs ys h =
     ∙ ap (drop (length ys)) back
     ∙ drop-drop (length ys) (p + length xs) b
     ∙ ap (λ (n : ℕ). drop n b) (let k = length-append xs ys in omega arith) in
-    ap₂ (λ (x y : List ℕ). x ++ (ys ++ y)) first last
+    ap₂ (λ (x y : List A). x ++ (ys ++ y)) first last
     ∙ append-assoc (take p b) xs (ys ++ drop (p + length (xs ++ ys)) b)
-    ∙ ap (λ (y : List ℕ). take p b ++ y) (sym (append-assoc xs ys (drop (p + length (xs ++ ys)) b)))
+    ∙ ap (λ (y : List A). take p b ++ y) (sym (append-assoc xs ys (drop (p + length (xs ++ ys)) b)))
 
 pub turn-bytes-append : (ts us : List Turn) → turn-bytes (ts ++ us) ≡ turn-bytes ts ++ turn-bytes us
 turn-bytes-append [] us = refl
@@ -102,7 +102,7 @@ record-laid b b₁ b₂ b₃ b₄ b₅ c t n et en h e₁ e₂ e₃ e₄ e₅ =
     ∙ ap (laid b 0) (sym (encode-parts c))
     ∙ laid-at-front b c
 
-pub nothing-laid : (b : List ℕ) (p : ℕ) → b ≡ laid b p []
+pub nothing-laid : {A : Type 0} (b : List A) (p : ℕ) → b ≡ laid b p []
 nothing-laid b p = sym (ap (λ (n : ℕ). take p b ++ drop n b) (omega arith) ∙ take-append-drop p b)
 
 pub turn-laid : (b b₁ b₂ : List ℕ) (p : ℕ) (ts : List Turn) (i : ℕ) (t : Turn) → i < length ts → p + 6 * length ts ≤ length b → nth ts i ≡ Some t

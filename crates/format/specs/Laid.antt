@@ -1,5 +1,5 @@
 -- Bytes laid into a buffer.
---   laid          the buffer once bytes are laid at a place of it
+--   laid          a list once others are laid over it from a place on
 --   written       the buffer once a content is written at its front
 --   most-bytes    what a record's own offsets can count
 --   write-refusal 9 where the buffer is too short, or the offsets could not count the bytes
@@ -13,8 +13,8 @@ use Rattle.std.specs.declared.option.Option.{Option}
 use Rattle.std.specs.declared.option.Option.the-variants.{Some, None}
 use Rattle.format.specs.Layout.{Content, encode}
 
-abbrev pub laid : List ℕ → ℕ → List ℕ → List ℕ
-laid buffer place bytes = take place buffer ++ (bytes ++ drop (place + length bytes) buffer)
+abbrev pub laid : {A : Type 0} → List A → ℕ → List A → List A
+laid buffer place xs = take place buffer ++ (xs ++ drop (place + length xs) buffer)
 
 abbrev pub written : List ℕ → Content → List ℕ
 written buffer c = encode c ++ drop (length (encode c)) buffer

@@ -1,0 +1,3 @@
+// Who meets whom, and one game's turns, on examples.
+#[cfg(test)]
+mod tests;

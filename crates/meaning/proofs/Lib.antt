@@ -1,0 +1,11 @@
+pub mod Walks
+pub mod Space
+pub mod Rooms
+pub mod Runs
+pub mod Steps
+pub mod Lefts
+pub mod Fits
+pub mod Judged
+pub mod Fair
+pub mod Alike
+pub mod Refusals

@@ -1,0 +1,6 @@
+pub mod Turns
+pub mod Games
+pub mod Calls
+pub mod History
+pub mod Judging
+pub mod Promises
