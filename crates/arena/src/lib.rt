@@ -1,4 +1,6 @@
 // The arena: it referees a round robin.
+#![tactic(auto)]
+
 pub mod arena;
 mod finding;
 mod games;

@@ -1,4 +1,6 @@
 // Banks of players: one player, two banks together, and a bench filled when the program runs.
+#![tactic(auto)]
+
 mod many;
 mod one;
 mod two;

@@ -1,4 +1,6 @@
 // The banks on examples.
+#![tactic(auto)]
+
 mod crowd;
 #[cfg(test)]
 mod tests;

@@ -1,4 +1,6 @@
 // Boards of columns and rows, and the windows of a length that lie on them.
+#![tactic(auto)]
+
 ghost use Rattle.std.specs.Prelude.{◌≡◌, length};
 ghost use Rattle.board.specs.Windows.{windows};
 ghost use Rattle.board.specs.Straight.{WindowsRight, LinesHoldWindows, InLineRight, WindowCounts};

@@ -1,4 +1,6 @@
 // What a clock is, for every make: what is left for each side, and what a turn's reading takes.
+#![tactic(auto)]
+
 ghost use Rattle.std.specs.Prelude.{◌≡◌, List, [], ◌∷◌, ltb};
 ghost use Rattle.clock.specs.Times.{Times, Bounded, Passing, spent};
 

@@ -1,4 +1,6 @@
 // Four clocks, each written for one side; a timer for each side, which is a clock; and a delay over any clock.
+#![tactic(auto)]
+
 mod bronstein_timer;
 mod delay_layer;
 mod fischer_timer;

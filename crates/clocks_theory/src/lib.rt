@@ -1,4 +1,6 @@
 // What the clocks are and what is true of them, apart from the code that runs them.
+#![tactic(auto)]
+
 ghost use Rattle.clocks_theory.specs.Laws.{Laws};
 ghost use Rattle.clocks_theory.specs.Samples.{Samples};
 

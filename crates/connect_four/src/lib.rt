@@ -1,4 +1,6 @@
 // Connect Four: seven columns and six rows, a word of bits for each side, bit 7 * column + row for a stone.
+#![tactic(auto)]
+
 ghost use Rattle.std.specs.Prelude.{◌≡◌, ◌<◌, ◌≤◌, false, not, length, Decides, count_by, count_ones};
 ghost use Rattle.side.specs.TwoSides.{pick};
 ghost use Rattle.rules.specs.Machine.{plan_of, OnWay};

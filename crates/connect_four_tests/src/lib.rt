@@ -1,4 +1,6 @@
 // Connect Four on whole games: the results were worked out by a program made apart.
+#![tactic(auto)]
+
 use connect_four::ConnectFour;
 use rules::{Rules, Status};
 use side::Side;

@@ -1,4 +1,6 @@
 // What Connect Four is, by its positions, and what is true of it in other words.
+#![tactic(auto)]
+
 ghost use Rattle.connect_four_theory.specs.Facts.{PlacedRight, LandingRight, StonesRight, SettledRight, MadeRight, FullRight, StatusRight, LegalRight, ChanceRight, ColumnSample};
 
 // What a code does: a stone falls to the lowest free cell of its column, and nothing else changes.

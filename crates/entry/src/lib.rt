@@ -1,4 +1,6 @@
 // Whether a game is open or has ended, and what an event makes of that.
+#![tactic(auto)]
+
 ghost use Rattle.std.specs.Prelude.{◌≡◌};
 ghost use Rattle.entry.specs.Entries.{standing_of, noted};
 

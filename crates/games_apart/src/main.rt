@@ -1,5 +1,7 @@
 // Plays the games of standard input, one to a line, and says after each code what the rules say.
 // A program made apart, apart/games.py, writes such games and what must be said of them.
+#![tactic(auto)]
+
 ghost use Rattle.std.specs.Prelude.{◌≡◌, true, false};
 ghost use Rattle.games_apart.specs.Words.{status_word, chance_word, legal_word};
 

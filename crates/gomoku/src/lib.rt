@@ -1,4 +1,6 @@
 // Gomoku on 15 by 15 points: five or more in a straight line win.
+#![tactic(auto)]
+
 ghost use Rattle.std.specs.Prelude.{◌≡◌, ◌<◌, false, [], length};
 ghost use Rattle.side.specs.declared.Side.TheVariants.{First};
 ghost use Rattle.rules.specs.Machine.{OnWay};

@@ -1,4 +1,5 @@
 // Tests of Gomoku.
+#![tactic(auto)]
 
 #[cfg(test)]
 mod tests {

@@ -1,4 +1,6 @@
 // Tests an archived record against rules and clock.
+#![tactic(auto)]
+
 ghost use Rattle.std.specs.Prelude.{◌≡◌, true, [], is_some, if◌then◌else◌, nat_eq};
 ghost use Rattle.side.specs.TwoSides.{opponent};
 ghost use Rattle.verdict.specs.declared.Outcome.TheVariants.{WonBy, Drawn};

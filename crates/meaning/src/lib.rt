@@ -1,4 +1,6 @@
 // What the rules make of readings and rulings: definitions, and what is promised of every run of calls.
+#![tactic(auto)]
+
 use verdict::Verdict;
 
 // What is told of a game: its verdict, none while it is open, its number of turns, and what is left for each side.

@@ -1,4 +1,6 @@
 // Nim: one to eight heaps of 1 to 31 counters; who takes the last counter wins.
+#![tactic(auto)]
+
 ghost use Rattle.std.specs.Prelude.{◌≡◌, ℕ, ◌-◌, ◌<◌, ◌≤◌, ◌||◌, [], ◌++◌, length, replicate, Decides, nat_lt};
 ghost use Rattle.side.specs.TwoSides.{same_side};
 ghost use Rattle.side.specs.declared.Side.TheVariants.{First};

@@ -1,4 +1,6 @@
 // Nim on examples: heaps at the ends of what is allowed, every code, whole games, copies.
+#![tactic(auto)]
+
 #[cfg(test)]
 mod tests {
     use nim::Nim;

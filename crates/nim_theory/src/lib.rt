@@ -1,4 +1,6 @@
 // What Nim is, by its heaps, and what follows from that. The code that plays it stands above this crate.
+#![tactic(auto)]
+
 ghost use Rattle.std.specs.Prelude.{◌≡◌, ℕ, true, false, List, [], ◌∷◌, length, replicate};
 ghost use Rattle.side.specs.declared.Side.TheVariants.{First, Second};
 ghost use Rattle.rules.specs.declared.Status.TheVariants.{Open, Won};

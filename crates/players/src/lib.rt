@@ -1,4 +1,6 @@
 // The players: a script, a stepper over any rules, and an enum of the kinds.
+#![tactic(auto)]
+
 mod kinds;
 mod scripts;
 mod steppers;

@@ -1,4 +1,6 @@
 // The players on examples, over a small game of the tests' own.
+#![tactic(auto)]
+
 mod pile;
 #[cfg(test)]
 mod tests;

@@ -1,4 +1,6 @@
 // Reads a record from standard input and prints its line.
+#![tactic(auto)]
+
 use report::line;
 use std::io::Read;
 

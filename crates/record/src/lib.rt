@@ -1,4 +1,6 @@
 // The archive's record: a reader and a writer over lent bytes.
+#![tactic(auto)]
+
 pub mod content;
 pub mod fault;
 pub mod reader;

@@ -1,4 +1,5 @@
 // Tests of the reader and the writer, on records whole and damaged.
+#![tactic(auto)]
 
 #[cfg(test)]
 mod tests {

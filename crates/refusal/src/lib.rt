@@ -1,4 +1,6 @@
 // The numbered refusals that name no place. A record's faults, which have a place, stand with the record.
+#![tactic(auto)]
+
 ghost use Rattle.std.specs.Prelude.{◌≡◌};
 ghost use Rattle.refusal.specs.Refusals.{refusal_number};
 

@@ -1,4 +1,6 @@
 // What the reading program prints of some bytes, and the sample record.
+#![tactic(auto)]
+
 ghost use Rattle.std.specs.Prelude.{◌≡◌, ℕ, ◌≤◌, List, ◌++◌, length, drop};
 ghost use Rattle.format.specs.Layout.{WellFormed, encode};
 ghost use Rattle.record.specs.Contents.{content};

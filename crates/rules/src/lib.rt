@@ -1,4 +1,6 @@
 // What the rules of a game are, for every game: which codes are legal, who has won, who still has a chance.
+#![tactic(auto)]
+
 ghost use Rattle.std.specs.Prelude.{◌≡◌, ℕ, true, not, List, [], ◌∷◌};
 ghost use Rattle.rules.specs.Plans.{RulesPlan, made, Lawful, PointOf, NoWin};
 

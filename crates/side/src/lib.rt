@@ -1,4 +1,6 @@
 // The two sides of a game. First begins, and they alternate.
+#![tactic(auto)]
+
 ghost use Rattle.std.specs.Prelude.{◌≡◌};
 ghost use Rattle.side.specs.TwoSides.{opponent, of_side};
 

@@ -1,4 +1,6 @@
 // How a game stands: its turns and its verdict, with the verdict's number.
+#![tactic(auto)]
+
 ghost use Rattle.std.specs.Prelude.{◌≡◌, if◌then◌else◌, Ok, Err};
 ghost use Rattle.verdict.specs.Verdicts.{result_number, verdict_number, standing_number, is_listed, standing_of, NumbersRight};
 
