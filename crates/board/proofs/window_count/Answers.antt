@@ -5,11 +5,11 @@ use Rattle.board.proofs.window_count.Goals as goal
 
 pub returns : goal.returns
 returns c =
-    let span = c.saturating-sub-span.ensures in
-    let across = c.saturating-sub-across.ensures in
-    let up = c.saturating-sub-up.ensures in
-    let x = c.saturating-sub-across.result in
-    let y = c.saturating-sub-up.result in
+    let span = c.saturating_sub-span.ensures in
+    let across = c.saturating_sub-across.ensures in
+    let up = c.saturating_sub-up.ensures in
+    let x = c.saturating_sub-across.result in
+    let y = c.saturating_sub-up.result in
     let e : length (windows c.args.columns c.args.rows c.args.n) ≡ c.args.columns * y + (x * c.args.rows + (x * y + x * y)) =
     (let w = window_number c.args.columns c.args.rows c.args.n in cc) in
     omega (arith, e)

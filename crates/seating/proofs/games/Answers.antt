@@ -3,4 +3,4 @@ use Rattle.seating.proofs.Computed.{seating_right}
 use Rattle.seating.proofs.games.Goals as goal
 
 pub returns : goal.returns
-returns c = record { value = ap (λ (m : ℕ). c.args.entrants * m / 2) c.saturating-sub.ensures; right = seating_right }
+returns c = record { value = ap (λ (m : ℕ). c.args.entrants * m / 2) c.saturating_sub.ensures; right = seating_right }

@@ -2,7 +2,7 @@ use Rattle.std.proofs.Common.{◌≡◌, ℕ, suc, ◌+◌, ◌-◌, ◌<◌, �
 use borrow.Author.Tests.{lt-leb}
 use Rattle.seating.specs.Pairs.{begun, row_start}
 use Rattle.seating.proofs.lower.Goals as goal
-use Rattle.seating.proofs.lower.Goals.{then-first-game-game, else-first-game-game}
+use Rattle.seating.proofs.lower.Goals.{then-first_game-game, else-first_game-game}
 
 -- one entrant more
 counted : (n g i : ℕ) → 1 ≤ i → begun n g (i + 1 - 1) ≡ cond (leb (row_start n i) g) 1 0 + begun n g (i - 1)
@@ -16,14 +16,14 @@ loop-later-preserved c =
     let game = c.args.game in
     let i = c.loop-later.later in
     let step = counted n game i (omega arith) in
-    let start = c.first-game.ensures in
-    elim c.if-first-game-game.branch [
-      | then-first-game-game w ↦
-          let early : row_start n i ≤ game = omega (arith, w.if-first-game-game.true) in
+    let start = c.first_game.ensures in
+    elim c.if-first_game-game.branch [
+      | then-first_game-game w ↦
+          let early : row_start n i ≤ game = omega (arith, w.if-first_game-game.true) in
           let one : begun n game (i + 1 - 1) ≡ 1 + begun n game (i - 1) = step ∙ ap (λ (t : Bool). cond t 1 0 + begun n game (i - 1)) (le-leb _ _ early) in
           (omega (arith, w.low-is), omega (arith, w.low-is))
-      | else-first-game-game w ↦
-          let late : game < row_start n i = omega (arith, w.if-first-game-game.false) in
+      | else-first_game-game w ↦
+          let late : game < row_start n i = omega (arith, w.if-first_game-game.false) in
           let none : begun n game (i + 1 - 1) ≡ 0 + begun n game (i - 1) = step ∙ ap (λ (t : Bool). cond t 1 0 + begun n game (i - 1)) (lt-leb _ _ late) in
           (omega (arith, w.low-is), omega (arith, w.low-is))
     ]
