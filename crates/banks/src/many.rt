@@ -63,7 +63,7 @@ impl<P: Player> Bank for Bench<P> {
 
     ghost line = { λ b. listed P.Player.line resigning b.players.items };
 
-    ghost few = { first_of (Prim.search rules, Prim.grind (arith, Self.row.coded.inj)) };
+    ghost few = { λ b. b.few };
 
     ghost coded = { λ b k.
         let Q : (Side → Answers) → Type 0 = λ plan. (seat : Side) → AreCodes (plan seat) in

@@ -8,8 +8,8 @@ pub returns-then-number-count : goal.returns-then-number-count
 returns-then-number-count g c =
     let xs = c.args.self.now.players.items in
     let i = c.args.number in
-    let x = c.index-mut.result.now in
-    let read = c.index-mut.ensures.value in
+    let x = c.index_mut.result.now in
+    let read = c.index_mut.ensures.value in
     let h : i < length xs = let e = c.args.self.now.players.ok.0 in omega arith in
     let line = listed_set g.P.Player.line resigning xs i c.show.new.self h in
     record {
