@@ -11,7 +11,7 @@
 --   InLineRight   some window passes a test exactly where some straight line of n cells or more does
 --   WindowCounts  how many windows three boards have
 use Rattle.std.specs.Prelude.{◌≡◌, ℕ, ◌+◌, ◌<◌, ◌≤◌, Bool, true, ◌&&◌, ◌⊎◌, List, [], ◌∷◌, length, take, Decides, nat_lt}
-use Rattle.std.specs.List.{AllByRecursion as All}
+use Rattle.std.specs.List.{AllByRecursion}
 use Rattle.board.specs.Windows.{Cell, every, windows, in_line}
 
 pub data Heading : Type 0 where
@@ -38,7 +38,7 @@ abbrev pub inside : ℕ → ℕ → Cell → Bool
 inside columns rows c = nat_lt c.column columns && nat_lt c.row rows
 
 abbrev pub LineOn : ℕ → ℕ → List Cell → Type 0
-LineOn columns rows w = ((h : Heading) × Straight h w) × All (Inside columns rows) w
+LineOn columns rows w = ((h : Heading) × Straight h w) × AllByRecursion (Inside columns rows) w
 
 abbrev pub Among : {X : Type 0} → X → List X → Type 0
 Among x [] = ⊥

@@ -5,7 +5,7 @@
 --   moved        the state after a legal move, by the status it leads to; `last` is that no further turn is allowed
 --   in_open      the state that an event makes of an open game
 --   noted        the same of any game: what comes after the end changes nothing
-use Rattle.std.specs.Prelude.{ℕ, Bool, true, false, cond, Some, None, Option}
+use Rattle.std.specs.Prelude.{Bool, true, false, cond, Some, None, Option}
 use Rattle.side.specs.TwoSides.{opponent}
 use Rattle.rules.specs.declared.Status.{Status}
 use Rattle.rules.specs.declared.Status.TheVariants.{Open as StillOpen, Won, Drawn}

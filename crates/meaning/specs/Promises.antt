@@ -7,7 +7,7 @@
 --   DeadDraws      where a flag fall is drawn, no series of legal codes from there wins for the other side
 --   DeadExactly    and where the rules' chances are exact, a flag fall that is won could have been won by some series
 use Rattle.std.specs.Prelude.{◌≡◌, ℕ, ◌<◌, ◌≤◌, true, List, length}
-use Rattle.std.specs.List.{AllByRecursion as All}
+use Rattle.std.specs.List.{AllByRecursion}
 use Rattle.side.specs.declared.Side.{Side}
 use Rattle.clock.specs.Times.{Bounded, Passing}
 use Rattle.rules.specs.Plans.{Lawful, Exact}
@@ -25,7 +25,7 @@ pub record KeptTerms (codes longest : ℕ) (T : Terms) : Type 0 where
   pub limit_most : T.limit ≤ 256
   pub text_least : 1 ≤ length T.text
   pub text_most : length T.text ≤ 64
-  pub text_bytes : All (λ b. b < 256) T.text
+  pub text_bytes : AllByRecursion (λ b. b < 256) T.text
   pub lawful : Lawful codes longest T.plans.rules
   pub bounded : Bounded T.plans.clock
   pub passing : Passing T.plans.clock

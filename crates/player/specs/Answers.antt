@@ -4,7 +4,7 @@
 --   AreCodes   law: answers are codes, numbers of 16 bits
 --   resigning  the answers of one who always resigns
 --   Absent     law: a number that a bank does not hold has such answers, at either seat and at every point
-use Rattle.std.specs.Prelude.{◌≡◌, List, [], ◌∷◌, ℕ, ◌≤◌}
+use Rattle.std.specs.Prelude.{◌≡◌, List, ◌∷◌, ℕ, ◌≤◌}
 use Rattle.side.specs.declared.Side.{Side}
 
 abbrev pub Answers : Type 0

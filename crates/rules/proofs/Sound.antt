@@ -4,8 +4,7 @@ use mathlib.Core.Logic.{∥∥₁_map}
 use Rattle.std.specs.List.{AllByRecursion as All}
 use Rattle.std.proofs.lemmas.Bool.{and_parts, and_from, cases_Bool, both_ways}
 use Rattle.side.specs.declared.Side.{Side}
-use Rattle.rules.specs.declared.Status.{Status}
-use Rattle.rules.specs.declared.Status.TheVariants.{Open, Won, Drawn}
+use Rattle.rules.specs.declared.Status.TheVariants.{Open, Won}
 use Rattle.rules.specs.Plans.{RulesPlan, Lawful, PointOf, Winnable, after_codes}
 use Rattle.rules.specs.Machine.{Machine, after, all_legal, plan_of, OnWay}
 

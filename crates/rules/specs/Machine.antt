@@ -4,7 +4,7 @@
 --   all_legal  whether each of some codes is legal where it is made
 --   plan_of    what the game says of each list of codes from a position on
 --   OnWay      some legal codes lead from one position to another
-use Rattle.std.specs.Prelude.{◌≡◌, ℕ, Bool, true, false, ◌&&◌, List, [], ◌∷◌}
+use Rattle.std.specs.Prelude.{◌≡◌, ℕ, Bool, true, ◌&&◌, List, [], ◌∷◌}
 use Rattle.side.specs.declared.Side.{Side}
 use Rattle.rules.specs.declared.Status.{Status}
 use Rattle.rules.specs.Plans.{RulesPlan}

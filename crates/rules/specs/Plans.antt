@@ -9,7 +9,7 @@
 --   NoWin        none does
 --   Exact        after each legal list, a side has a chance exactly where some series from there wins for it
 use Rattle.std.specs.Prelude.{◌≡◌, ℕ, ◌<◌, ◌≤◌, Bool, true, false, cond, List, [], ◌∷◌, ◌++◌, length, Decides}
-use Rattle.std.specs.List.{AllByRecursion as All}
+use Rattle.std.specs.List.{AllByRecursion}
 use Rattle.side.specs.declared.Side.{Side}
 use Rattle.rules.specs.declared.Status.{Status}
 use Rattle.rules.specs.declared.Status.TheVariants.{Open, Won, Drawn}
@@ -37,7 +37,7 @@ pub record Lawful (codes longest : ℕ) (p : RulesPlan) : Type 0 where
   pub earlier : (w : List ℕ) (c : ℕ) (v : List ℕ) → p.legal (w ++ (c ∷ v)) ≡ true → (p.legal w ≡ true) × (p.status w ≡ Open)
   pub goes_on : (w : List ℕ) → p.legal w ≡ true → p.status w ≡ Open → (c : ℕ) × (p.legal (w ++ (c ∷ [])) ≡ true)
   pub few : codes ≤ 65534
-  pub below : (w : List ℕ) → p.legal w ≡ true → All (λ c. c < codes) w
+  pub below : (w : List ℕ) → p.legal w ≡ true → AllByRecursion (λ c. c < codes) w
   pub short : (w : List ℕ) → p.legal w ≡ true → length w ≤ longest
   pub fades : (w v : List ℕ) (s : Side) → p.legal (w ++ v) ≡ true → p.chance w s ≡ false → p.chance (w ++ v) s ≡ false
   pub winner : (w : List ℕ) (s : Side) → p.legal w ≡ true → p.status w ≡ Won s → p.chance w s ≡ true
