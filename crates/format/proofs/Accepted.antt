@@ -1,15 +1,14 @@
 -- Bytes that hold all that is required encode a well-formed content.
-use Rattle.std.proofs.Common.{◌≡◌, ℕ, zero, suc, ◌+◌, ◌-◌, ◌*◌, ◌/◌, ◌%◌, ◌<◌, ◌≤◌, Bool, true, false, not, ◌≢◌, List, [], ◌∷◌, ◌++◌, length, get_or, take, drop, None, sym, refl, ap, ◌∙◌, subst, ap₂, append_assoc, arith, length-drop, eqb-true, leb-true}
+use Rattle.std.proofs.Common.{◌≡◌, ℕ, zero, suc, ◌+◌, ◌*◌, ◌/◌, ◌%◌, ◌<◌, ◌≤◌, true, List, [], ◌∷◌, ◌++◌, length, get_or, drop, sym, refl, ap, ◌∙◌, subst, ap₂, append_assoc, arith, length-drop, eqb-true, leb-true}
 use borrow.Author.Tests.{eqb-false}
 use Rattle.std.specs.List.{AllByRecursion as All}
 use Rattle.std.proofs.lemmas.List.{length-take-le, take-append-drop, drop-drop, drop_all, get_or-drop}
-use Rattle.std.proofs.ByRecursion.{All-from_get_or, All-take, All-drop}
+use Rattle.std.proofs.ByRecursion.{All-from_get_or, All-take}
 use Rattle.std.proofs.lemmas.Bool.{and_parts, not-true}
-use Rattle.verdict.specs.declared.Turn.{Turn}
 use Rattle.verdict.proofs.Numbers.{of_listed}
-use Rattle.format.specs.Layout.{Content, WellFormed, InLaw, TurnFits, encode, head, pairs, half, word, turn_bytes}
-use Rattle.format.specs.Requirements.{Requirement, half_at, word_at, text_length, turns_length, turns_part, lefts_part, turn_at, turns_of, content_of, reading_requirements, left_requirements, requirements, in_law, first_fault}
-use Rattle.format.specs.Promises.{Bytes, Encodes, AcceptsOnly}
+use Rattle.format.specs.Layout.{WellFormed, InLaw, TurnFits, encode, head, pairs, half, word, turn_bytes}
+use Rattle.format.specs.Requirements.{half_at, word_at, text_length, turns_length, turns_part, lefts_part, turns_of, content_of, reading_requirements, left_requirements, requirements, in_law}
+use Rattle.format.specs.Promises.{Bytes, AcceptsOnly}
 use Rattle.format.proofs.Numbers.{cons, half_from, word_from, from_place, from_place_is}
 use Rattle.format.proofs.Faults.{Holds, all_hold}
 use Rattle.format.proofs.TurnParts.{length_turns_of}

@@ -1,5 +1,5 @@
 -- What a well-formed content encodes to is read as that content.
-use Rattle.std.proofs.Common.{◌≡◌, ℕ, zero, suc, ◌+◌, ◌*◌, ◌/◌, ◌%◌, ◌<◌, ◌≤◌, Bool, true, false, not, List, [], ◌∷◌, ◌++◌, length, take, drop, sym, refl, ap, ◌∙◌, subst, ap₂, arith, length-append, eq-eqb, ne_eqb, le-leb}
+use Rattle.std.proofs.Common.{◌≡◌, ℕ, ◌+◌, ◌*◌, ◌/◌, ◌%◌, ◌≤◌, true, not, List, [], ◌∷◌, ◌++◌, length, take, drop, sym, refl, ap, ◌∙◌, subst, ap₂, arith, length-append, eq-eqb, ne_eqb, le-leb}
 use Rattle.std.specs.List.{AllByRecursion as All}
 use Rattle.std.proofs.lemmas.List.{take_at, drop_at}
 use Rattle.std.proofs.ByRecursion.{All-append}
@@ -8,8 +8,8 @@ use Rattle.verdict.specs.declared.Turn.{Turn}
 use Rattle.verdict.specs.Verdicts.{standing_of, standing_number}
 use Rattle.verdict.proofs.Numbers.{of_standing}
 use Rattle.format.specs.Layout.{Content, WellFormed, InLaw, TurnFits, encode, half, word, turn_bytes}
-use Rattle.format.specs.Requirements.{Requirement, half_at, word_at, text_length, turns_length, turns_part, lefts_part, turn_at, turns_of, content_of, reading_requirements, left_requirements, requirements, in_law}
-use Rattle.format.specs.Promises.{Reads, ReadsBack}
+use Rattle.format.specs.Requirements.{half_at, word_at, text_length, turns_length, turns_part, lefts_part, turn_at, turns_of, content_of, reading_requirements, requirements, in_law}
+use Rattle.format.specs.Promises.{ReadsBack}
 use Rattle.format.proofs.Numbers.{cons, same_content, half_number, word_number}
 use Rattle.format.proofs.Faults.{Holds, none_found}
 

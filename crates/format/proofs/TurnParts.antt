@@ -1,11 +1,10 @@
 -- Turns that lie in bytes, six to a turn.
-use Rattle.std.proofs.Common.{◌≡◌, ℕ, zero, suc, ◌+◌, ◌*◌, ◌<◌, ◌≤◌, List, [], ◌∷◌, ◌++◌, length, get_or, take, drop, Some, sym, refl, ap, ◌∙◌, ap₂, arith}
+use Rattle.std.proofs.Common.{◌≡◌, ℕ, zero, suc, ◌+◌, ◌*◌, ◌<◌, List, length, get_or, drop, Some, refl, ap, ◌∙◌, ap₂, arith}
 use Rattle.std.specs.List.{slice_get}
-use Rattle.std.proofs.lemmas.List.{get_or-drop, get_or-take, drop-drop, drop-take}
+use Rattle.std.proofs.lemmas.List.{get_or-drop}
 use Rattle.std.proofs.lemmas.Option.{slice_get-get_or}
 use Rattle.verdict.specs.declared.Turn.{Turn}
-use Rattle.format.specs.Requirements.{half_at, word_at, turn_at, turns_of}
-use Rattle.format.proofs.Numbers.{cons}
+use Rattle.format.specs.Requirements.{half_at, word_at, turns_of}
 
 pub length_turns_of : (m : ℕ) (xs : List ℕ) → length (turns_of m xs) ≡ m
 length_turns_of zero xs = refl

@@ -5,7 +5,7 @@
 --   longest_text the most bytes of a text
 --   head, pair, pairs, turn_bytes, encode   the bytes, part by part
 --   WellFormed   what holds of a content that a record may have
-use Rattle.std.specs.Prelude.{◌≡◌, ℕ, ◌+◌, ◌*◌, ◌/◌, ◌%◌, ◌<◌, ◌≤◌, ◌≢◌, List, [], ◌∷◌, ◌++◌, length, Option}
+use Rattle.std.specs.Prelude.{ℕ, ◌+◌, ◌*◌, ◌/◌, ◌%◌, ◌<◌, ◌≤◌, ◌≢◌, List, [], ◌∷◌, ◌++◌, length, Option}
 use Rattle.std.specs.List.{AllByRecursion as All}
 use Rattle.verdict.specs.declared.Turn.{Turn}
 use Rattle.verdict.specs.declared.Verdict.{Verdict}

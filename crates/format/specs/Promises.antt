@@ -6,7 +6,7 @@
 --   Decided       what follows the first 1,645 bytes does not change the first fault
 use Rattle.std.specs.Prelude.{◌≡◌, ℕ, ◌<◌, ◌≤◌, List, ◌++◌, length, None, slice_index}
 use Rattle.format.specs.Layout.{Content, WellFormed, encode}
-use Rattle.format.specs.Requirements.{Found, requirements, first_fault, content_of}
+use Rattle.format.specs.Requirements.{requirements, first_fault, content_of}
 
 abbrev pub Bytes : List ℕ → Type 0
 Bytes b = (k : ℕ) → slice_index b k < 256

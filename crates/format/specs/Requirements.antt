@@ -8,7 +8,7 @@
 --   Found        a fault's number and place
 --   first_fault  the first requirement that does not hold
 --   PartedAt     head and pairs hold, the text ends at one place and the turns at another
-use Rattle.std.specs.Prelude.{◌≡◌, ℕ, zero, suc, ◌+◌, ◌*◌, ◌/◌, ◌%◌, Bool, true, false, cond, not, ◌&&◌, List, [], ◌∷◌, ◌++◌, length, take, drop, Some, None, Option, ◌==◌, nat_le, slice_index}
+use Rattle.std.specs.Prelude.{◌≡◌, ℕ, zero, suc, ◌+◌, ◌*◌, ◌/◌, ◌%◌, Bool, true, cond, not, ◌&&◌, List, [], ◌∷◌, ◌++◌, length, take, drop, Some, None, Option, ◌==◌, nat_le, slice_index}
 use Rattle.verdict.specs.declared.Turn.{Turn}
 use Rattle.verdict.specs.Verdicts.{standing_of, is_listed}
 use Rattle.format.specs.Layout.{Content, version, longest_text}
