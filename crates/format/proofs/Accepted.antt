@@ -1,7 +1,7 @@
 -- Bytes that hold all that is required encode a well-formed content.
 use Rattle.std.proofs.Common.{◌≡◌, ℕ, zero, suc, ◌+◌, ◌*◌, ◌/◌, ◌%◌, ◌<◌, ◌≤◌, true, List, [], ◌∷◌, ◌++◌, length, get_or, drop, sym, refl, ap, ◌∙◌, subst, ap₂, append_assoc, arith, length-drop, eqb-true, leb-true}
 use borrow.Author.Tests.{eqb-false}
-use Rattle.std.specs.List.{AllByRecursion as All}
+use Rattle.std.specs.List.{AllByRecursion}
 use Rattle.std.proofs.lemmas.List.{length-take-le, take-append-drop, drop-drop, drop_all, get_or-drop}
 use Rattle.std.proofs.ByRecursion.{All-from_get_or, All-take}
 use Rattle.std.proofs.lemmas.Bool.{and_parts, not-true}
@@ -29,7 +29,7 @@ turns_again (suc m) xs ok h =
     ∙ ap₂ ◌++◌ front (ap (λ (y : List ℕ). turn_bytes (turns_of m rest) ++ y) six ∙ ih)
     ∙ from_place_is 6 0 xs (omega arith)
 
-turns_fit : (m place : ℕ) (xs : List ℕ) → Bytes xs → All Holds (reading_requirements place (turns_of m xs)) → All TurnFits (turns_of m xs)
+turns_fit : (m place : ℕ) (xs : List ℕ) → Bytes xs → AllByRecursion Holds (reading_requirements place (turns_of m xs)) → AllByRecursion TurnFits (turns_of m xs)
 turns_fit zero place xs ok a = tt
 turns_fit (suc m) place xs ok a =
     let p = ok 0 in
@@ -39,11 +39,11 @@ turns_fit (suc m) place xs ok a =
 law_from : (left : ℕ) → in_law left ≡ true → InLaw left
 law_from left h = let p = and_parts _ _ h in record { least = leb-true _ _ p.0; most = leb-true _ _ p.1 }
 
-all_parts : {X : Type 0} (P : X → Type 0) (xs ys : List X) → All P (xs ++ ys) → All P xs × All P ys
+all_parts : {X : Type 0} (P : X → Type 0) (xs ys : List X) → AllByRecursion P (xs ++ ys) → AllByRecursion P xs × AllByRecursion P ys
 all_parts P [] ys a = (tt, a)
 all_parts P (x ∷ xs) ys a = let r = all_parts P xs ys a.1 in ((a.0, r.0), r.1)
 
-module _ (b : List ℕ) (ok : Bytes b) (a : All Holds (requirements b)) where
+module _ (b : List ℕ) (ok : Bytes b) (a : AllByRecursion Holds (requirements b)) where
   long : 44 ≤ length b
   unfolding requirements
   long = leb-true _ _ a.0
@@ -69,7 +69,7 @@ module _ (b : List ℕ) (ok : Bytes b) (a : All Holds (requirements b)) where
       let s = and_parts _ _ h.1 in
       (eqb-true _ _ h.0, eqb-true _ _ s.0, eqb-true _ _ s.1)
 
-  part_holds : All Holds (reading_requirements (36 + text_length b) (content_of b).turns) × All Holds (left_requirements (36 + text_length b + turns_length b) (content_of b).first_left (content_of b).second_left)
+  part_holds : AllByRecursion Holds (reading_requirements (36 + text_length b) (content_of b).turns) × AllByRecursion Holds (left_requirements (36 + text_length b + turns_length b) (content_of b).first_left (content_of b).second_left)
   unfolding requirements
   part_holds = all_parts Holds (reading_requirements (36 + text_length b) (content_of b).turns) _ a.1.1.1.1.1.1.1.1.1.1.1.1.1.1
 

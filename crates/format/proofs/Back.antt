@@ -1,6 +1,6 @@
 -- What a well-formed content encodes to is read as that content.
 use Rattle.std.proofs.Common.{◌≡◌, ℕ, ◌+◌, ◌*◌, ◌/◌, ◌%◌, ◌≤◌, true, not, List, [], ◌∷◌, ◌++◌, length, take, drop, sym, refl, ap, ◌∙◌, subst, ap₂, arith, length-append, eq-eqb, ne_eqb, le-leb}
-use Rattle.std.specs.List.{AllByRecursion as All}
+use Rattle.std.specs.List.{AllByRecursion}
 use Rattle.std.proofs.lemmas.List.{take_at, drop_at}
 use Rattle.std.proofs.ByRecursion.{All-append}
 use Rattle.std.proofs.lemmas.Bool.{and_from}
@@ -31,11 +31,11 @@ turn_back t w rest =
     let r = w.reading_fits in
     ap₂ f (half_number t.code w.code_fits) (word_number t.reading (omega arith))
 
-turns_back : (ts : List Turn) → All TurnFits ts → (rest : List ℕ) → turns_of (length ts) (turn_bytes ts ++ rest) ≡ ts
+turns_back : (ts : List Turn) → AllByRecursion TurnFits ts → (rest : List ℕ) → turns_of (length ts) (turn_bytes ts ++ rest) ≡ ts
 turns_back [] a rest = refl
 turns_back (t ∷ ts) a rest = cons (turn_back t a.0 (turn_bytes ts ++ rest)) (turns_back ts a.1 rest)
 
-readings_hold : (place : ℕ) (ts : List Turn) → All TurnFits ts → All Holds (reading_requirements place ts)
+readings_hold : (place : ℕ) (ts : List Turn) → AllByRecursion TurnFits ts → AllByRecursion Holds (reading_requirements place ts)
 readings_hold place [] a = tt
 readings_hold place (t ∷ ts) a = (le-leb _ _ a.0.reading_fits, readings_hold (place + 6) ts a.1)
 
@@ -94,7 +94,7 @@ module _ (c : Content) (w : WellFormed c) where
   unfolding encode
   says = same_content (content_of (encode c)) c refl refl standing_back lim_is text_back all_turns first_back second_back
 
-  holds : All Holds (requirements (encode c))
+  holds : AllByRecursion Holds (requirements (encode c))
   unfolding encode requirements
   holds =
       let b = encode c in
@@ -141,7 +141,7 @@ module _ (c : Content) (w : WellFormed c) where
                                 (
                                   and_from _ _ (eq-eqb _ _ lefts_from) (and_from _ _ refl (eq-eqb _ _ ends)),
                                   All-append Holds _ _
-                                      (subst (λ (ts : List Turn). All Holds (reading_requirements (36 + text_length b) ts)) (sym all_turns) (readings_hold _ c.turns w.turns_fit)) (
+                                      (subst (λ (ts : List Turn). AllByRecursion Holds (reading_requirements (36 + text_length b) ts)) (sym all_turns) (readings_hold _ c.turns w.turns_fit)) (
                                         ap in_law first_back ∙ law_holds _ w.first_in_law,
                                         (ap in_law second_back ∙ law_holds _ w.second_in_law, tt),
                                       ),

@@ -1,6 +1,6 @@
 -- The first fault of a series of requirements.
 use Rattle.std.proofs.Common.{◌≡◌, ℕ, Bool, true, false, cond, List, [], ◌∷◌, ◌++◌, Some, None, Option, refl, ap, ◌∙◌, arith}
-use Rattle.std.specs.List.{AllByRecursion as All}
+use Rattle.std.specs.List.{AllByRecursion}
 use Rattle.format.specs.Requirements.{Requirement, Found, found, first_fault}
 
 abbrev pub Holds : Requirement → Type 0
@@ -10,11 +10,11 @@ by_test : (b : Bool) (o : Option Found) (f : Found) → cond b o (Some f) ≡ No
 by_test true o f e = (refl, e)
 by_test false o f e = let z : ◌≡◌ {A = ℕ} 0 1 = cc in absurd (omega arith)
 
-pub all_hold : (ds : List Requirement) → first_fault ds ≡ None → All Holds ds
+pub all_hold : (ds : List Requirement) → first_fault ds ≡ None → AllByRecursion Holds ds
 all_hold [] e = tt
 all_hold (d ∷ ds) e = let p = by_test d.holds (first_fault ds) _ e in (p.0, all_hold ds p.1)
 
-pub none_found : (ds : List Requirement) → All Holds ds → first_fault ds ≡ None
+pub none_found : (ds : List Requirement) → AllByRecursion Holds ds → first_fault ds ≡ None
 none_found [] a = refl
 none_found (d ∷ ds) a = ap (λ (b : Bool). cond b (first_fault ds) (Some (found d.number d.place))) a.0 ∙ none_found ds a.1
 

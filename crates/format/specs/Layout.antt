@@ -6,7 +6,7 @@
 --   head, pair, pairs, turn_bytes, encode   the bytes, part by part
 --   WellFormed   what holds of a content that a record may have
 use Rattle.std.specs.Prelude.{ℕ, ◌+◌, ◌*◌, ◌/◌, ◌%◌, ◌<◌, ◌≤◌, ◌≢◌, List, [], ◌∷◌, ◌++◌, length, Option}
-use Rattle.std.specs.List.{AllByRecursion as All}
+use Rattle.std.specs.List.{AllByRecursion}
 use Rattle.verdict.specs.declared.Turn.{Turn}
 use Rattle.verdict.specs.declared.Verdict.{Verdict}
 use Rattle.verdict.specs.Verdicts.{standing_number}
@@ -70,8 +70,8 @@ pub record WellFormed (c : Content) : Type 0 where
   pub limit_most : c.limit ≤ 256
   pub text_least : 1 ≤ length c.text
   pub text_most : length c.text ≤ longest_text
-  pub text_bytes : All (λ b. b < 256) c.text
+  pub text_bytes : AllByRecursion (λ b. b < 256) c.text
   pub within_limit : length c.turns ≤ c.limit
-  pub turns_fit : All TurnFits c.turns
+  pub turns_fit : AllByRecursion TurnFits c.turns
   pub first_in_law : InLaw c.first_left
   pub second_in_law : InLaw c.second_left
