@@ -15,7 +15,7 @@
 --   side_in       the side that an entrant plays in it
 --   cell          a cell of the crosstable: 0 no ended game, 1 the row's entrant lost, 2 drawn, 3 won
 --   table_bytes   the cells by rows
-use Rattle.std.specs.Prelude.{ℕ, ◌-◌, ◌*◌, min, max, Bool, true, false, cond, ◌&&◌, List, [], ◌∷◌, ◌++◌, map, length, get_or, take, drop, set, Some, None, Option, ◌==◌, nat_le, nat_lt, slice_index_or, slice_set}
+use Rattle.std.specs.Prelude.{ℕ, ◌-◌, ◌*◌, min, max, Bool, true, cond, ◌&&◌, List, [], ◌∷◌, map, length, get_or, take, drop, set, Some, None, Option, ◌==◌, nat_le, nat_lt, slice_index_or, slice_set}
 use Rattle.std.specs.List.{range_with_len, flat_map}
 use Rattle.side.specs.declared.Side.{Side}
 use Rattle.side.specs.declared.Side.TheVariants.{First, Second}

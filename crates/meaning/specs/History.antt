@@ -10,17 +10,16 @@
 --   made_codes   the codes made by some turns: the legal ones, in their order
 --   FlagDraws    where a flag fall is drawn, no series from there wins for the other side
 --   FlagExact    and where it is not, some series does
-use Rattle.std.specs.Prelude.{◌≡◌, ℕ, ◌*◌, ◌≤◌, Bool, true, false, cond, ◌&&◌, ◌≢◌, List, [], ◌∷◌, ◌++◌, map, length, replicate, ◌==◌, nat_le}
+use Rattle.std.specs.Prelude.{◌≡◌, ℕ, ◌*◌, ◌≤◌, cond, ◌&&◌, ◌≢◌, List, [], ◌∷◌, ◌++◌, map, length, replicate, ◌==◌, nat_le}
 use Rattle.side.specs.declared.Side.{Side}
 use Rattle.side.specs.declared.PerSide.{PerSide}
 use Rattle.rules.specs.Plans.{RulesPlan, Winnable, NoWin, after_codes}
 use Rattle.verdict.specs.declared.Turn.{Turn}
-use Rattle.verdict.specs.declared.Outcome.{Outcome}
 use Rattle.verdict.specs.declared.Outcome.TheVariants.{WonBy, Drawn}
 use Rattle.verdict.specs.declared.Verdict.TheVariants.{Flag}
 use Rattle.entry.specs.declared.State.TheVariants.{Ended}
 use Rattle.entry.specs.Entries.{fresh}
-use Rattle.seating.specs.Pairs.{games_of, seats_of}
+use Rattle.seating.specs.Pairs.{games_of}
 use Rattle.meaning.specs.Games.{Terms, Game, new_game, one, ruled, to_move}
 use Rattle.meaning.specs.Calls.{Hall, known, in_range, played, ruled_entries}
 

@@ -13,7 +13,7 @@ use Rattle.clock.specs.Times.{Bounded, Passing}
 use Rattle.rules.specs.Plans.{Lawful, Exact}
 use Rattle.player.specs.Answers.{AreCodes}
 use Rattle.seating.specs.Pairs.{seats_of}
-use Rattle.meaning.specs.Games.{Terms, Game, told_of}
+use Rattle.meaning.specs.Games.{Terms, told_of}
 use Rattle.meaning.specs.Calls.{Hall, game_at, known, record_bytes, meeting, cell}
 use Rattle.meaning.specs.History.{Call, Reached, feed, game_of, Alike, Without, FlagDraws, FlagExact}
 use Rattle.meaning.specs.Judging.{judge_of, accepts}
