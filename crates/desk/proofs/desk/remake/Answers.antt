@@ -1,11 +1,9 @@
-use Rattle.std.proofs.Common.{◌≡◌, ◌+◌, ◌≤◌, true, false, [], ◌∷◌, sym, refl, ap, ◌∙◌, subst, ap₂, arith}
-use Rattle.rules.specs.Plans.{RulesPlan, made}
-use Rattle.desk.specs.Lines.{Way}
+use Rattle.std.proofs.Common.{◌≤◌, sym, refl, ◌∙◌, arith}
 use Rattle.desk.proofs.Ways.{way_more, made_not, way_full}
 use Rattle.desk.proofs.desk.remake.Goals as goal
 
-pub returns-then-count-longest-game : goal.returns-then-count-longest-game
-returns-then-count-longest-game g c =
+pub returns-then-count-longest_game : goal.returns-then-count-longest_game
+returns-then-count-longest_game g c =
     let x = c.args.rules.now in
     let full : g.R.Rules.longest ≤ c.args.count = omega (arith, c.longest_game.ensures) in
     record {

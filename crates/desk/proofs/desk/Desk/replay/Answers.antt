@@ -1,10 +1,10 @@
-use Rattle.std.proofs.Common.{◌≡◌, [], sym, refl, ap, ◌∙◌, subst, ap₂, arith, rules}
+use Rattle.std.proofs.Common.{◌≡◌, sym, refl, ap, ◌∙◌, arith}
 use Rattle.std.proofs.lemmas.List.{at_drop_all}
 use Rattle.side.specs.declared.Side.TheVariants.{First, Second}
 use Rattle.verdict.specs.declared.Turn.{Turn}
 use Rattle.meaning.specs.Games.{Plans}
 use Rattle.meaning.specs.Turns.{mover}
-use Rattle.desk.specs.Lines.{Lines, planned, lined, at_start, walked, followed, Way}
+use Rattle.desk.specs.Lines.{Lines, planned, lined, at_start, walked}
 use Rattle.desk.proofs.Ways.{way_start}
 use Rattle.desk.proofs.Walk.{walked_more, mover_more, lines_same, plans_same}
 use Rattle.desk.proofs.desk.Desk.replay.Goals as goal
