@@ -10,6 +10,6 @@ returns g c =
     let delays = c.args.self.now.delays in
     let line = g.C.Clock.line c.args.self.now.below in
     record {
-      plan = ap (delay_times delays) c.spend-over.ensures.plan;
-      line = ap (delay_times delays) (c.spend-over.ensures.line ∙ ap (λ d. spent line c.args.side (c.args.reading - d)) c.of-delay.ensures) ∙ delay_goes_on delays line c.args.side c.args.reading c.requires;
+      plan = ap (delay_times delays) c.spend_over.ensures.plan;
+      line = ap (delay_times delays) (c.spend_over.ensures.line ∙ ap (λ d. spent line c.args.side (c.args.reading - d)) c.of-delay.ensures) ∙ delay_goes_on delays line c.args.side c.args.reading c.requires;
     }
