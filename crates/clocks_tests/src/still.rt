@@ -1,6 +1,6 @@
 // A clock on which no time goes by, to hold a layer over any left.
 ghost use Rattle.std.specs.Prelude.{◌≤◌};
-ghost use Rattle.std.proofs.Common.{rules, arith};
+ghost use Rattle.std.proofs.Common.{rules};
 
 use clock::Clock;
 use side::Side;
@@ -17,9 +17,9 @@ impl Clock for Still {
 
     ghost line = { λ c _ _. c.left };
 
-    ghost bounded = { first_of (Prim.search rules, Prim.grind (arith, Self.row.coded.inj)) };
+    ghost bounded = { Prim.search rules };
 
-    ghost passing = { first_of (Prim.search rules, Prim.grind (arith, Self.row.coded.inj)) };
+    ghost passing = { Prim.search rules };
 
     fn reset(&mut self) {}
 

@@ -30,13 +30,19 @@ fn run<T: Timer>(rt: &impl Abort, timer: &mut T, start: u32, turns: &[Turn]) -> 
 }
 
 // The same for one side of a clock, whose other side keeps its time.
-fn run_side<C: Clock>(clock: &mut C, side: Side, start: u32, turns: &[Turn]) -> Result<(), Fail> {
+fn run_side<C: Clock>(
+    rt: &impl Abort,
+    clock: &mut C,
+    side: Side,
+    start: u32,
+    turns: &[Turn],
+) -> Result<(), Fail> {
     let other = clock.left(side.other());
-    assert_eq!(clock.left(side), start);
+    assert_eq!(rt; clock.left(side), start);
     for (reading, in_time, left) in turns {
-        assert_eq!(clock.spend(side, *reading), *in_time);
-        assert_eq!(clock.left(side), *left);
-        assert_eq!(clock.left(side.other()), other);
+        assert_eq!(rt; clock.spend(side, *reading), *in_time);
+        assert_eq!(rt; clock.left(side), *left);
+        assert_eq!(rt; clock.left(side.other()), other);
     }
     Ok(())
 }
@@ -230,18 +236,20 @@ fn sides_apart(rt: HostRuntime) -> Result<(), Fail> {
         second: Fischer::new(2_000, 0)?,
     };
     run_side(
+        &rt,
         &mut clock,
         Side::First,
         1_000,
         &[(999, true, 501), (1_999, false, 501)],
     )?;
     run_side(
+        &rt,
         &mut clock,
         Side::Second,
         2_000,
         &[(1_999, true, 1), (1, false, 1)],
     )?;
-    run_side(&mut clock, Side::First, 501, &[(500, true, 501)])?;
+    run_side(&rt, &mut clock, Side::First, 501, &[(500, true, 501)])?;
     clock.reset();
     assert_eq!(rt; clock.left(Side::First), 1_000);
     assert_eq!(rt; clock.left(Side::Second), 2_000);
@@ -262,6 +270,7 @@ fn delay_table(rt: HostRuntime) -> Result<(), Fail> {
         },
     )?;
     run_side(
+        &rt,
         &mut clock,
         Side::First,
         1_300,
@@ -276,6 +285,7 @@ fn delay_table(rt: HostRuntime) -> Result<(), Fail> {
         ],
     )?;
     run_side(
+        &rt,
         &mut clock,
         Side::Second,
         1_000,
@@ -288,7 +298,7 @@ fn delay_table(rt: HostRuntime) -> Result<(), Fail> {
 }
 
 #[test]
-fn delay_over_delay() -> Result<(), Fail> {
+fn delay_over_delay(rt: HostRuntime) -> Result<(), Fail> {
     let plain = TwoTimers {
         first: Plain::new(1_000)?,
         second: Plain::new(5_000)?,
@@ -308,6 +318,7 @@ fn delay_over_delay() -> Result<(), Fail> {
         },
     )?;
     run_side(
+        &rt,
         &mut clock,
         Side::First,
         1_500,
@@ -320,6 +331,7 @@ fn delay_over_delay() -> Result<(), Fail> {
         ],
     )?;
     run_side(
+        &rt,
         &mut clock,
         Side::Second,
         5_150,
@@ -328,7 +340,7 @@ fn delay_over_delay() -> Result<(), Fail> {
 }
 
 #[test]
-fn delay_over_japanese() -> Result<(), Fail> {
+fn delay_over_japanese(rt: HostRuntime) -> Result<(), Fail> {
     let japanese = TwoTimers {
         first: Japanese::new(1_000, 3, 500)?,
         second: Japanese::new(0, 1, 500)?,
@@ -341,6 +353,7 @@ fn delay_over_japanese() -> Result<(), Fail> {
         },
     )?;
     run_side(
+        &rt,
         &mut clock,
         Side::First,
         2_510,
@@ -351,6 +364,7 @@ fn delay_over_japanese() -> Result<(), Fail> {
         ],
     )?;
     run_side(
+        &rt,
         &mut clock,
         Side::Second,
         520,
@@ -393,6 +407,7 @@ fn delay_cap(rt: HostRuntime) -> Result<(), Fail> {
         },
     )?;
     run_side(
+        &rt,
         &mut pile,
         Side::First,
         1_000_000_000,
