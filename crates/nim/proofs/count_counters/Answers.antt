@@ -8,7 +8,7 @@ pub loop-h-preserved : goal.loop-h-preserved
 loop-h-preserved c =
     let l : c.loop-h.h-index < length c.args.heaps.now = omega arith in
     let e = sum_by_more (λ x. x) c.args.heaps.now c.loop-h.h-index 0 l in
-    (omega arith, omega (arith, c.type-inv.heaps c.loop-h.h-index))
+    (omega arith, omega (arith, c.type_inv.heaps c.loop-h.h-index))
 
 pub returns : goal.returns
 returns c = c.loop-h.invariant.0 ∙ ap counters (take_all c.loop-h.h-index c.args.heaps.now c.loop-h-test.false)

@@ -1,4 +1,4 @@
-use Rattle.std.proofs.Common.{◌≡◌, ◌*◌, ◌≤◌, take}
+use Rattle.std.proofs.Common.{◌≡◌, ◌≤◌, take}
 use Rattle.nim_theory.specs.Nim.{filled}
 use Rattle.nim.proofs.count_filled.Given as goal
 

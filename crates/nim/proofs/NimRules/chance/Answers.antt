@@ -6,5 +6,5 @@ use Rattle.nim.proofs.NimRules.chance.Goals as goal
 pub returns : goal.returns
 returns c =
     let x = c.args.self.now in
-    let e = c.has-chance.ensures ∙ chance_is x.heaps x.turn c.args.side _ _ c.count-filled.ensures x.left_is in
+    let e = c.has_chance.ensures ∙ chance_is x.heaps x.turn c.args.side _ _ c.count_filled.ensures x.left_is in
     record { value = e; exact = Decides-at _ _ e (chance_exact x.heaps x.turn c.args.side x.eight_now) }

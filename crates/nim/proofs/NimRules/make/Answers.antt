@@ -9,27 +9,35 @@ use Rattle.nim.proofs.NimRules.make.Goals as goal
 
 pub bounds-self-heap : goal.bounds-self-heap
 bounds-self-heap c =
-    let i = (fit c.args.self.now.heaps c.args.code (sym c.if-not-is-fitting.ensures)).inside in
+    let i = (fit c.args.self.now.heaps c.args.code (sym c.if-not-is_fitting.ensures)).inside in
     omega (arith, c.args.self.now.eight_now)
 
 pub bounds-self-heap-2 : goal.bounds-self-heap-2
 bounds-self-heap-2 c =
-    let i = (fit c.args.self.now.heaps c.args.code (sym c.if-not-is-fitting.ensures)).inside in
+    let i = (fit c.args.self.now.heaps c.args.code (sym c.if-not-is_fitting.ensures)).inside in
     omega (arith, c.args.self.now.eight_now)
 
-pub overflow-sub-self-2 : goal.overflow-sub-self-2
-overflow-sub-self-2 c =
+pub overflow_sub-self-2 : goal.overflow_sub-self-2
+overflow_sub-self-2 c =
     let x = c.args.self.now in
-    let k = (change x.heaps c.args.code (fit x.heaps c.args.code (sym c.if-not-is-fitting.ensures))).fewer in
+    let k = (change x.heaps c.args.code (fit x.heaps c.args.code (sym c.if-not-is_fitting.ensures))).fewer in
     omega (arith, x.left_is)
 
-pub invariant-of-self : goal.invariant-of-self
-invariant-of-self c =
+pub invariant_of-self : goal.invariant_of-self
+invariant_of-self c =
     let x = c.args.self.now in
-    let h = sym c.if-not-is-fitting.ensures in
+    let h = sym c.if-not-is_fitting.ensures in
     let k = (change x.heaps c.args.code (fit x.heaps c.args.code h)).fewer in
     let l : x.left - c.args.code % 32 ≡ counters (taken x.heaps c.args.code) = omega (arith, x.left_is) in
     let w : OnTheWay x.start (taken x.heaps c.args.code) c.other-self.result =
     subst (λ (t : Side). OnTheWay x.start (taken x.heaps c.args.code) t) (sym c.other-self.ensures)
     (next_on_way nim (at x.start First) (at x.heaps x.turn) c.args.code x.way h) in
-    (x.eight, (length-set x.heaps (c.args.code / 32) _ ∙ x.eight_now, (x.total_is, (l, (x.some, (x.few, (w, tt)))))))
+    record {
+      eight = x.eight;
+      eight_now = length-set x.heaps (c.args.code / 32) _ ∙ x.eight_now;
+      total_is = x.total_is;
+      left_is = l;
+      some = x.some;
+      few = x.few;
+      way = w;
+    }
