@@ -1,7 +1,6 @@
 // A player that answers from a list of codes.
-ghost use Rattle.std.specs.Prelude.{◌≡◌, ℕ, ◌≤◌, slice_index_or};
+ghost use Rattle.std.specs.Prelude.{◌≡◌, ℕ, ◌≤◌, ◌/◌, length, slice_index_or};
 ghost use Rattle.players.specs.Scripts.{scripted, scripted_from};
-ghost use Rattle.std.proofs.Common.{rules, arith};
 
 use player::{Player, RESIGNS};
 use side::Side;
@@ -36,7 +35,7 @@ impl Player for Script {
 
     ghost line = { λ s. scripted_from s.codes.items s.shown };
 
-    ghost coded = { first_of (Prim.search rules, Prim.grind (arith, Self.row.coded.inj)) };
+    ghost coded = { λ s seat w. s.coded (length w / 2) };
 
     fn reset(&mut self, _seat: Side) {
         self.shown = 0;

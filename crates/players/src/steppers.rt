@@ -47,11 +47,11 @@ fn lowest_legal<R: Rules + Drop>(rules: &R, from: u16) -> Option<u16>
 }
 
 impl<R: Rules + Drop> Player for Stepper<R> {
-    ghost plan = { λ s seat. stepper_answers R-as-Rules.codes s.step (R-as-Rules.plan s.rules) };
+    ghost plan = { λ s seat. stepper_answers R.Rules.codes s.step (R.Rules.plan s.rules) };
 
-    ghost line = { λ s. stepper_answers R-as-Rules.codes s.step (R-as-Rules.line s.rules) };
+    ghost line = { λ s. stepper_answers R.Rules.codes s.step (R.Rules.line s.rules) };
 
-    ghost coded = { λ p seat w. stepped_code R-as-Rules.codes p.step (shown_to (R-as-Rules.plan p.rules) w) (R-as-Rules.lawful p.rules).few };
+    ghost coded = { λ p seat w. stepped_code R.Rules.codes p.step (shown_to (R.Rules.plan p.rules) w) (R.Rules.lawful p.rules).few };
 
     fn reset(&mut self, _seat: Side) {
         self.rules.reset();

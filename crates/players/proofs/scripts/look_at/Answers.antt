@@ -3,4 +3,4 @@ use Rattle.players.proofs.Entries.{coded_past}
 use Rattle.players.proofs.scripts.look_at.Goals as goal
 
 pub returns : goal.returns
-returns c = coded_past c.args.codes.now (λ k. let f = (c.type-inv.codes k).fits in omega arith)
+returns c = coded_past c.args.codes.now (λ k. let f = (c.type_inv.codes k).fits in omega arith)

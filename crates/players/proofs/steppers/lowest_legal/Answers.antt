@@ -9,7 +9,7 @@ returns-then-make g c =
     let p = g.R.Rules.line c.args.rules.now in
     let codes = g.R.Rules.codes in
     let code = c.loop-code.code in
-    let e = c.code-count-code-end.ensures in
+    let e = c.code_count-code-end.ensures in
     let below : code < codes = omega arith in
     let legal : p.legal (code ∷ []) ≡ true = ap (λ (q : RulesPlan). q.legal (code ∷ [])) (sym c.copy-trial.ensures.line) ∙ (sym c.make.ensures.legal ∙ c.if-make.true) in
     sym (sym c.loop-code.invariant ∙ (lowest_more p code codes below ∙ cond-true _ _ _ legal))
@@ -19,7 +19,7 @@ loop-code-preserved g c =
     let p = g.R.Rules.line c.args.rules.now in
     let codes = g.R.Rules.codes in
     let code = c.loop-code.code in
-    let e = c.code-count-code-end.ensures in
+    let e = c.code_count-code-end.ensures in
     let below : code < codes = omega arith in
     let legal : p.legal (code ∷ []) ≡ false = ap (λ (q : RulesPlan). q.legal (code ∷ [])) (sym c.copy-trial.ensures.line) ∙ (sym c.make.ensures.legal ∙ c.if-make.false) in
     sym (lowest_more p code codes below ∙ cond-false _ _ _ legal) ∙ c.loop-code.invariant
@@ -29,6 +29,6 @@ returns g c =
     let p = g.R.Rules.line c.args.rules.now in
     let codes = g.R.Rules.codes in
     let code = c.loop-code.code in
-    let e = c.code-count-code-end.ensures in
+    let e = c.code_count-code-end.ensures in
     let past : codes ≤ code = omega arith in
     sym (sym c.loop-code.invariant ∙ lowest_none p code codes past)

@@ -6,4 +6,4 @@ pub returns-else-self-len : goal.returns-else-self-len
 returns-else-self-len c =
     let s = c.args.self.now in
     let h : length s.codes.items ≤ s.shown / 2 = let e = s.codes.ok.0 in omega arith in
-    record { plan = refl; line = shown_past s.codes.items s.shown c.args.-code h }
+    record { plan = refl; line = shown_past s.codes.items s.shown c.args._code h }

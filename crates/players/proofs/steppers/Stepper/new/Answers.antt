@@ -11,7 +11,7 @@ returns g c =
     let longest = g.R.Rules.longest in
     let plan = g.R.Rules.plan x in
     record {
-      plan = (cond-false _ _ _ (le-ltb 65533 c.args.step c.if-step-gt-MOST-STEP.false), refl);
+      plan = (cond-false _ _ _ (le-ltb 65533 c.args.step c.if-step-gt-MOST_STEP.false), refl);
       line = refl;
       lowest = plays_lowest codes longest c.args.step plan plan law (point_start codes longest plan law);
       lowest_line = plays_lowest codes longest c.args.step plan (g.R.Rules.line x) law (g.met.R.Rules.point x);
