@@ -4,7 +4,7 @@ use Rattle.std.proofs.Common.{sym, ap, ◌∙◌, inl, inr, append_assoc, arith,
 use Rattle.std.proofs.Math.Path.{fun_ext}
 use Rattle.std.proofs.Math.Logic.{∥∥₁_elim, ∥∥₁_map}
 use mathlib.Core.HLevel.{⊥_prop}
-use Rattle.std.specs.List.{AllByRecursion as All}
+use Rattle.std.specs.List.{AllByRecursion}
 use Rattle.std.specs.Option.{unwrap_or}
 use Rattle.std.proofs.lemmas.Bool.{cases_lt, cases_eq, cases_Bool}
 use Rattle.rules.specs.Plans.{RulesPlan, Lawful, PointOf, after_codes, made}
@@ -82,7 +82,7 @@ pub point_shown : (plan p : RulesPlan) (w : List ℕ) → PointOf plan p → Poi
 point_shown plan p [] point = point
 point_shown plan p (c ∷ w) point = point_shown plan (made p c) w (point_made plan p c (p.legal (c ∷ [])) refl point)
 
-last_of : (Q : ℕ → Type 0) (w : List ℕ) (c : ℕ) → All Q (w ++ (c ∷ [])) → Q c
+last_of : (Q : ℕ → Type 0) (w : List ℕ) (c : ℕ) → AllByRecursion Q (w ++ (c ∷ [])) → Q c
 last_of Q [] c h = h.0
 last_of Q (d ∷ w) c h = last_of Q w c h.1
 
