@@ -1,7 +1,7 @@
 -- Four in a line on the board, as four bits of a word, each a step past the one before.
 use Rattle.std.proofs.Common.{◌≡◌, ℕ, zero, suc, ◌+◌, ◌*◌, ◌/◌, ◌^◌, ◌<◌, ◌≤◌, min, Bool, true, false, not, ◌&&◌, ◌||◌, ◌⊎◌, List, [], ◌∷◌, length, Decides, sym, refl, ap, ◌∙◌, subst, ap₂, inl, inr, arith, lit<, lit≤}
 use lib.Bits.{bit_and, bit_xor}
-use Rattle.std.specs.List.{AllByRecursion as All}
+use Rattle.std.specs.List.{AllByRecursion}
 use Rattle.std.proofs.lemmas.Bool.{and_left, and_right, and_parts, and_from, ltb-true, lt-ltb, le-ltb, cases_Bool, cases_lt, both_ways}
 use Rattle.std.proofs.lemmas.Bool.Decides.{same_from_decides, Decides-or}
 use Rattle.board.specs.Windows.{Cell, cell, every, windows, in_line}
@@ -163,7 +163,7 @@ run_quads w s r =
 
 -- ---- tests that agree on the board, and tests that pass more
 
-every_cong : (p q : Cell → Bool) → ((c : Cell) → Inside 7 6 c → p c ≡ q c) → (w : List Cell) → All (Inside 7 6) w → every p w ≡ true → every q w ≡ true
+every_cong : (p q : Cell → Bool) → ((c : Cell) → Inside 7 6 c → p c ≡ q c) → (w : List Cell) → AllByRecursion (Inside 7 6) w → every p w ≡ true → every q w ≡ true
 every_cong p q f [] a h = refl
 every_cong p q f (c ∷ w) a h = let e = and_parts _ _ h in and_from _ _ (sym (f c a.0) ∙ e.0) (every_cong p q f w a.1 e.1)
 
