@@ -6,10 +6,10 @@ use Rattle.connect_four_theory.proofs.Moves.{settled_start, open_start}
 use Rattle.connect_four_theory.proofs.Facts.{column_wins}
 use Rattle.connect_four.proofs.ConnectFour.new.Goals as goal
 
-pub invariant-of-result : goal.invariant-of-result
-invariant-of-result c =
+pub invariant_of-result : goal.invariant_of-result
+invariant_of-result c =
     let g = settled_start in
-    (g.first-on, (g.second_on, (g.apart, (g.rests, (sym open_start, (start_on_way four start, tt))))))
+    record { first_on = g.first_on; second_on = g.second_on; apart = g.apart; rests = g.rests; judged = sym open_start; way = start_on_way four start }
 
 pub returns : goal.returns
 returns c = record { start = refl; line = refl; windows = window_counts.0; sample = column_wins }

@@ -16,7 +16,7 @@ returns c =
     let side = c.args.side in
     let p = at x.first x.second x.turn in
     let word = c.word.ensures ∙ ap (λ (s : Side). pick s x.first x.second) c.other.ensures ∙ pick_other side x.first x.second in
-    let e = c.has-gap.ensures ∙ ap (λ (w : ℕ). four_in_line (λ d. not (has_stone w d))) word in
+    let e = c.has_gap.ensures ∙ ap (λ (w : ℕ). four_in_line (λ d. not (has_stone w d))) word in
     record {
       value = e;
       no_win = λ f. no_win 7 42 connect_four (plan_of four p) laws (point_of four start p x.way) side (sym e ∙ f);
