@@ -1,15 +1,15 @@
 -- The windows of the board by heading, and those through one cell.
-use Rattle.std.specs.Prelude.{◌≡◌, ℕ, zero, suc, ◌+◌, ◌-◌, ◌*◌, ◌/◌, ◌%◌, ◌<◌, ◌≤◌, Bool, true, false, cond, ◌&&◌, ◌||◌, ◌⊎◌, List, [], ◌∷◌, ◌++◌, length, Some, None, Option, ◌==◌, ◌≢◌, nat_le, nat_lt, refl}
-use Rattle.std.proofs.Common.{sym, ap, subst, ◌∙◌, inl, inr, arith}
+use Rattle.std.specs.Prelude.{◌≡◌, ℕ, ◌+◌, ◌-◌, ◌<◌, ◌≤◌, Bool, true, false, cond, ◌&&◌, ◌||◌, List, ◌++◌, length, Some, None, Option, ◌==◌, ◌≢◌, nat_le, nat_lt, refl}
+use Rattle.std.proofs.Common.{sym, ap, ◌∙◌, inl, inr, arith}
 use Rattle.std.proofs.Math.Path.{ap₂}
 use Rattle.std.proofs.lemmas.Bool.{and_parts, and_from, or_parts, cases_Bool, both_ways, le-leb, lt-ltb, ltb-true, eq-eqb, eqb-true, cond-true, true≢false}
-use Rattle.board.specs.Windows.{Cell, cell, cells, every, some, below, grid, windows, in_line}
+use Rattle.board.specs.Windows.{Cell, cells, every, some, below, grid, windows, in_line}
 use Rattle.board.proofs.Windows.{some_in, every_weaker, some_append, some_grid, found}
 use Rattle.gomoku.specs.declared.Heading.{Heading}
 use Rattle.gomoku.specs.declared.Heading.TheVariants.{Upright, Level, Rising, Falling}
 use Rattle.gomoku.specs.Gomoku.{lines}
-use Rattle.gomoku.specs.Search.{columns_of, rows_of, column_at, row_at, cell_at, window, column_has, board_has, begin, both, begin_of, begun, passes, through, won_at}
-use Rattle.gomoku.specs.Tests.{same_test, never_true, one_of, none_of, every_map, each_of, from_each}
+use Rattle.gomoku.specs.Search.{columns_of, rows_of, column_at, row_at, cell_at, window, column_has, board_has, begin, both, begin_of, begun, passes, through}
+use Rattle.gomoku.specs.Tests.{same_test, one_of, none_of, every_map, each_of, from_each}
 
 pub count : length lines ≡ 572
 unfolding windows

@@ -1,19 +1,18 @@
 -- What a code does to a position of Gomoku, and the laws from it.
-use Rattle.std.specs.Prelude.{◌≡◌, ℕ, zero, suc, ◌+◌, ◌-◌, ◌*◌, ◌/◌, ◌%◌, ◌<◌, ◌≤◌, Bool, true, false, cond, not, ◌&&◌, ◌||◌, ◌⊎◌, List, [], ◌∷◌, length, get_or, set, replicate, Some, None, count_by, ◌==◌, ◌≢◌, nat_eq, nat_lt, slice_index_or, slice_set, refl}
+use Rattle.std.specs.Prelude.{◌≡◌, ℕ, suc, ◌+◌, ◌-◌, ◌*◌, ◌/◌, ◌%◌, ◌<◌, Bool, true, false, cond, not, ◌&&◌, ◌||◌, List, [], ◌∷◌, length, get_or, set, Some, None, ◌==◌, ◌≢◌, nat_eq, nat_lt, slice_index_or, slice_set, refl}
 use Rattle.std.proofs.Common.{sym, ap, ap₂, subst, ◌∙◌, inl, inr, arith}
-use Rattle.std.proofs.lemmas.Bool.{and_parts, and_from, and_left, ltb-true, lt-ltb, eq-eqb, eqb-true, ne_eqb, cases_Bool, cases_eq, true≢false, both_ways}
+use Rattle.std.proofs.lemmas.Bool.{and_parts, and_from, ltb-true, lt-ltb, eq-eqb, eqb-true, ne_eqb, cases_Bool, cases_eq, true≢false, both_ways}
 use Rattle.std.proofs.lemmas.List.Sums.{sum_by-set, sum_by-cons, count_by-le-length}
 use Rattle.std.proofs.lemmas.List.{length-set, get_or-set_same, get_or-set_other, get_or-replicate}
 use Rattle.side.specs.declared.Side.{Side}
 use Rattle.side.specs.declared.Side.TheVariants.{First, Second}
 use Rattle.side.specs.TwoSides.{opponent, same_side}
-use Rattle.rules.specs.declared.Status.{Status}
 use Rattle.rules.specs.declared.Status.TheVariants.{Open, Won, Drawn}
 use Rattle.rules.specs.Plans.{is_open, Lawful}
 use Rattle.rules.specs.Machine.{after, all_legal}
 use Rattle.rules.proofs.Sound.{Sound, lawful}
 use Rattle.rules.proofs.Statuses.{status_open}
-use Rattle.board.specs.Windows.{Cell, every, in_line, windows}
+use Rattle.board.specs.Windows.{Cell, in_line, windows}
 use Rattle.gomoku.specs.declared.Point.{Point}
 use Rattle.gomoku.specs.declared.Point.TheVariants.{Free, Stone}
 use Rattle.gomoku.specs.declared.Heading.TheVariants.{Upright, Level, Rising, Falling}

@@ -15,7 +15,7 @@
 --   through      whether it is so for some j
 --   won_at       whether some window through the point of a code passes, in any heading
 --   judged_by    the status by whether the mover has five in line and by how many stones there are
-use Rattle.std.specs.Prelude.{ℕ, ◌+◌, ◌-◌, ◌/◌, ◌%◌, Bool, true, false, cond, ◌&&◌, ◌||◌, List, [], ◌∷◌, Some, None, Option, ◌==◌, nat_le, nat_lt}
+use Rattle.std.specs.Prelude.{ℕ, ◌+◌, ◌-◌, ◌/◌, ◌%◌, Bool, false, cond, ◌&&◌, ◌||◌, List, Some, None, Option, ◌==◌, nat_le, nat_lt}
 use Rattle.side.specs.declared.Side.{Side}
 use Rattle.side.specs.TwoSides.{same_side}
 use Rattle.rules.specs.declared.Status.{Status}

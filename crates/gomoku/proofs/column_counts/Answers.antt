@@ -1,4 +1,4 @@
-use Rattle.std.proofs.Common.{◌≡◌, ℕ, false, sym, refl, ap, ◌∙◌, arith}
+use Rattle.std.proofs.Common.{◌≡◌, ℕ, sym, refl, ap, ◌∙◌, arith}
 use Rattle.board.specs.Windows.{every}
 use Rattle.board.proofs.Windows.{none_more, found}
 use Rattle.gomoku.specs.Search.{seen, window, rows_of, column_has}
@@ -8,17 +8,17 @@ pub loop-row-init : goal.loop-row-init
 unfolding column_has
 loop-row-init c = refl
 
-pub returns-then-window-counts : goal.returns-then-window-counts
+pub returns-then-window_counts : goal.returns-then-window_counts
 unfolding column_has
-returns-then-window-counts c =
+returns-then-window_counts c =
     let a = c.args in
-    sym (found (λ r. every (seen a.points.now a.side a.gaps) (window a.heading a.column r)) c.loop-row.row (rows_of a.heading) (omega arith) (sym c.if-window-counts.ensures))
+    sym (found (λ r. every (seen a.points.now a.side a.gaps) (window a.heading a.column r)) c.loop-row.row (rows_of a.heading) (omega arith) (sym c.if-window_counts.ensures))
 
 pub loop-row-preserved : goal.loop-row-preserved
 unfolding column_has
 loop-row-preserved c =
     let a = c.args in
-    none_more (λ r. every (seen a.points.now a.side a.gaps) (window a.heading a.column r)) c.loop-row.row c.loop-row.invariant (sym c.if-window-counts.ensures)
+    none_more (λ r. every (seen a.points.now a.side a.gaps) (window a.heading a.column r)) c.loop-row.row c.loop-row.invariant (sym c.if-window_counts.ensures)
 
 pub returns : goal.returns
 returns c =

@@ -9,18 +9,18 @@ use Rattle.gomoku.proofs.window_counts.Goals as goal
 pub loop-j-init : goal.loop-j-init
 loop-j-init c = refl
 
-pub returns-then-not-counts-for : goal.returns-then-not-counts-for
-returns-then-not-counts-for c =
+pub returns-then-not-counts_for : goal.returns-then-not-counts_for
+returns-then-not-counts_for c =
     let a = c.args in
     let place = ap (λ (k : ℕ). meets (get_or a.points.now k Free) a.side a.gaps) c.place.ensures.value in
     sym (window_at (seen a.points.now a.side a.gaps) a.heading a.column a.row
-    ∙ all_but (λ j. seen a.points.now a.side a.gaps (cell_at a.heading a.column a.row j)) c.loop-j.j 5 c.loop-j-test.true (sym (c.if-not-counts-for.ensures ∙ place)))
+    ∙ all_but (λ j. seen a.points.now a.side a.gaps (cell_at a.heading a.column a.row j)) c.loop-j.j 5 c.loop-j-test.true (sym (c.if-not-counts_for.ensures ∙ place)))
 
 pub loop-j-preserved : goal.loop-j-preserved
 loop-j-preserved c =
     let a = c.args in
     let place = ap (λ (k : ℕ). meets (get_or a.points.now k Free) a.side a.gaps) c.place.ensures.value in
-    all_more (λ j. seen a.points.now a.side a.gaps (cell_at a.heading a.column a.row j)) c.loop-j.j c.loop-j.invariant (sym (c.if-not-counts-for.ensures ∙ place))
+    all_more (λ j. seen a.points.now a.side a.gaps (cell_at a.heading a.column a.row j)) c.loop-j.j c.loop-j.invariant (sym (c.if-not-counts_for.ensures ∙ place))
 
 pub returns : goal.returns
 returns c =

@@ -1,4 +1,4 @@
-use Rattle.std.proofs.Common.{◌≡◌, sym, ap, ◌∙◌}
+use Rattle.std.proofs.Common.{ap, ◌∙◌}
 use Rattle.gomoku.specs.Gomoku.{Position, stones_on}
 use Rattle.gomoku.specs.Moves.{counts}
 use Rattle.gomoku.proofs.Gomoku.stones.Goals as goal

@@ -9,8 +9,8 @@ pub returns : goal.returns
 returns c =
     let x = c.args.self.now in
     record {
-      answer = c.has-room.ensures;
+      answer = c.has_room.ensures;
       no_win = λ e.
           no_win 225 225 (gomoku_from start.points start.turn) (gomoku_from x.points x.turn) laws (point_of gomoku start (at x.points x.turn) x.way) c.args.side
-          (sym c.has-room.ensures ∙ e);
+          (sym c.has_room.ensures ∙ e);
     }
