@@ -3,7 +3,7 @@
 --   Checked      the first of some requirements that does not hold is answered as the fault
 --   Answered     the content that the bytes say, or the first fault by rising place
 --   Exactly      the bytes encode that content, which is well-formed; on a fault they encode none
-use Rattle.std.specs.Prelude.{◌≡◌, ℕ, List, map, Some, None, Ok, Err, Result}
+use Rattle.std.specs.Prelude.{◌≡◌, ℕ, List, Some, None, Ok, Err, Result}
 use Rattle.verdict.specs.declared.Turn.{Turn}
 use Rattle.format.specs.Layout.{Content}
 use Rattle.format.specs.Requirements.{Requirement, must, requirements, first_fault, turns_in, PartedAt}

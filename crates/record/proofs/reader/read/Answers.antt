@@ -1,15 +1,13 @@
-use Rattle.std.proofs.Common.{◌≡◌, ℕ, List, Some, None, Ok, Err, Option, Result, subst, arith}
-use Rattle.format.specs.Layout.{Content, encode}
-use Rattle.format.specs.Requirements.{Found, first_fault, requirements}
-use Rattle.format.specs.Promises.{Encodes, Reads}
+use Rattle.std.proofs.Common.{◌≡◌, ℕ, List, None, Ok, Err, Result, subst, arith}
+use Rattle.format.specs.Layout.{Content}
+use Rattle.format.specs.Requirements.{first_fault, requirements}
+use Rattle.format.specs.Promises.{Encodes}
 use Rattle.format.proofs.Accepted.{accepts_only}
 use Rattle.format.proofs.Back.{reads_back}
 use Rattle.record.specs.declared.content.Record.{Record}
 use Rattle.record.specs.declared.content.TurnBytes.{TurnBytes}
 use Rattle.record.specs.declared.fault.Fault.{Fault}
-use Rattle.record.specs.Contents.{content}
-use Rattle.record.specs.Faults.{found_of}
-use Rattle.record.specs.Reading.{lent_turns, Looked, Answered, Exactly}
+use Rattle.record.specs.Reading.{Looked, Answered, Exactly}
 use Rattle.record.proofs.reader.read.Goals as goal
 
 answered : (b : List ℕ) (r : Result (Record TurnBytes) Fault) → Looked b r → Answered b r

@@ -9,6 +9,6 @@ returns c =
     let xs = c.args.bytes.now in
     let n : p + length xs - p ≡ length xs = omega arith in
     record {
-      buffer = ap₂ (λ (ys zs : List ℕ). take p b ++ (ys ++ zs)) c.copy-from-slice.ensures.after (ap (λ (k : ℕ). drop k (drop p b)) n ∙ drop-drop (length xs) p b);
+      buffer = ap₂ (λ (ys zs : List ℕ). take p b ++ (ys ++ zs)) c.copy_from_slice.ensures.after (ap (λ (k : ℕ). drop k (drop p b)) n ∙ drop-drop (length xs) p b);
       end = refl;
     }

@@ -10,10 +10,10 @@ returns g c =
     let r = content g.T.Turns.turns c.args.self.now in
     let l = length_encode r in
     let b = c.args.buffer.now in
-    record_laid b c.put.new.buffer c.put-pairs.new.buffer c.put-text-end.new.buffer c.put-turns-turns-end.new.buffer c.put-2.new.buffer r
-    c.put-text-end.result c.put-turns-turns-end.result c.put-text-end.ensures.end c.put-turns-turns-end.ensures.end (omega arith)
+    record_laid b c.put.new.buffer c.put_pairs.new.buffer c.put-text_end.new.buffer c.put_turns-turns_end.new.buffer c.put-2.new.buffer r
+    c.put-text_end.result c.put_turns-turns_end.result c.put-text_end.ensures.end c.put_turns-turns_end.ensures.end (omega arith)
     (c.put.ensures.buffer ∙ ap (laid b 0) c.head.ensures)
-    c.put-pairs.ensures
-    c.put-text-end.ensures.buffer
-    c.put-turns-turns-end.ensures.buffer
-    (c.put-2.ensures.buffer ∙ ap (laid c.put-turns-turns-end.new.buffer c.put-turns-turns-end.result) c.lefts.ensures)
+    c.put_pairs.ensures
+    c.put-text_end.ensures.buffer
+    c.put_turns-turns_end.ensures.buffer
+    (c.put-2.ensures.buffer ∙ ap (laid c.put_turns-turns_end.new.buffer c.put_turns-turns_end.result) c.lefts.ensures)

@@ -1,15 +1,15 @@
-use Rattle.std.proofs.Common.{◌≡◌, ℕ, ◌<◌, ◌≤◌, length, sym, refl, ◌∙◌, arith}
+use Rattle.std.proofs.Common.{length, sym, refl, ◌∙◌, arith}
 use Rattle.format.specs.Layout.{encode}
 use Rattle.format.proofs.Back.{length_encode, reads_back}
 use Rattle.format.proofs.LaidOut.{none_size, some_size, refused_long, refused_short, accepted}
 use Rattle.record.specs.Contents.{content}
 use Rattle.record.proofs.content.Record.write.Goals as goal
 
-pub returns-in-default : goal.returns-in-default
-returns-in-default g c =
+pub returns-in_default : goal.returns-in_default
+returns-in_default g c =
     let r = content g.T.Turns.turns c.args.self.now in
     record {
-      answer = refused_long (length c.args.buffer.now) r (none_size (length (encode r)) (sym c.in-default.is ∙ c.length.ensures));
+      answer = refused_long (length c.args.buffer.now) r (none_size (length (encode r)) (sym c.in_default.is ∙ c.length.ensures));
       buffer = refl;
       reads_back = reads_back r;
     }
@@ -24,8 +24,8 @@ returns-then-needed-buffer g c =
       reads_back = reads_back r;
     }
 
-pub put-all-requires : goal.put-all-requires
-put-all-requires g c =
+pub put_all-requires : goal.put_all-requires
+put_all-requires g c =
     let r = content g.T.Turns.turns c.args.self.now in
     let l = length_encode r in
     let s = some_size (length (encode r)) _ (sym c.in-Some.is ∙ c.length.ensures) in
@@ -37,6 +37,6 @@ returns g c =
     let s = some_size (length (encode r)) _ (sym c.in-Some.is ∙ c.length.ensures) in
     record {
       answer = (accepted (length c.args.buffer.now) r s.1 (omega (arith, s.0)), sym s.0);
-      buffer = c.put-all.ensures;
+      buffer = c.put_all.ensures;
       reads_back = reads_back r;
     }

@@ -1,4 +1,4 @@
-use Rattle.std.proofs.Common.{◌≡◌, ℕ, ◌/◌, ◌<◌, ◌≤◌, length, Some, sym, ap, ◌∙◌, ap₂, arith}
+use Rattle.std.proofs.Common.{ℕ, ◌/◌, ◌<◌, length, Some, sym, ap, ◌∙◌, ap₂, arith}
 use Rattle.std.proofs.lemmas.Option.{slice_get_past}
 use Rattle.verdict.specs.declared.Turn.{Turn}
 use Rattle.format.specs.Requirements.{turns_in}
