@@ -117,6 +117,7 @@ fn pair_checks(bytes: &[u8]) -> [Check; 3]
 }
 
 // The turns' bytes begin at `place` of the record.
+#[tactic(auto, using(format::proofs::Places::reading_at))]
 fn check_readings(turns: TurnBytes<'_>, place: usize) -> Result<(), Fault>
     requires { place + length turns.0.now < 2 ^ 64 }
     ensures { Checked (reading_requirements place (turns_in turns.entry.0.now)) result }

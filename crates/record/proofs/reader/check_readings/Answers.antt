@@ -1,17 +1,9 @@
 use Rattle.std.proofs.Common.{◌+◌, ◌*◌, ◌/◌, ◌<◌, ◌≤◌, length, sym, ◌∙◌, arith}
 use Rattle.std.proofs.lemmas.List.{at_drop_all}
 use Rattle.format.specs.Requirements.{first_fault, reading_requirements, turns_in, word_at}
-use Rattle.format.proofs.Places.{reading_on, reading_at}
+use Rattle.format.proofs.Places.{reading_on}
 use Rattle.format.proofs.TurnParts.{length_turns_of}
 use Rattle.record.proofs.reader.check_readings.Goals as goal
-
-pub returns-then-word-gt-LONGEST_READING : goal.returns-then-word-gt-LONGEST_READING
-returns-then-word-gt-LONGEST_READING c =
-    let xs = c.args.turns.0.now in
-    let i = c.loop-number.number in
-    let within : i < length xs / 6 = omega arith in
-    let high : 86400000 < word_at xs (6 * i + 2) = omega arith in
-    sym c.loop-number.invariant ∙ reading_at c.args.place xs i within high
 
 pub loop-number-preserved : goal.loop-number-preserved
 loop-number-preserved c =
