@@ -1,5 +1,5 @@
 use Rattle.std.proofs.Common.{◌≡◌, ℕ, ◌≤◌, List, ◌++◌, length, Option, sym, ap, ◌∙◌, subst}
-use Rattle.format.specs.Requirements.{Found, first_fault, requirements, content_of}
+use Rattle.format.specs.Requirements.{Found, content_of}
 use Rattle.format.proofs.Enough.{decided, long_faulty}
 use Rattle.record.specs.Contents.{content}
 use Rattle.record.specs.Faults.{found_of}

@@ -1,4 +1,4 @@
-use Rattle.std.proofs.Common.{◌≡◌, ℕ, subst, ap₂, rules}
+use Rattle.std.proofs.Common.{ℕ, subst, ap₂, rules}
 use Rattle.format.specs.Requirements.{found}
 use Rattle.report.specs.Lines.{refused_line, Texts}
 use Rattle.report.proofs.refused.Goals as goal

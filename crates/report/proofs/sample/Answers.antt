@@ -1,4 +1,4 @@
-use Rattle.std.proofs.Common.{◌≡◌, ℕ, ◌≢◌, refl, arith, lit<, lit≤}
+use Rattle.std.proofs.Common.{refl, arith, lit<, lit≤}
 use Rattle.format.specs.Layout.{encode}
 use Rattle.report.proofs.sample.Goals as goal
 
