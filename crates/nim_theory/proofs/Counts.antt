@@ -1,19 +1,16 @@
 -- What one code does to the counts of a position of Nim, and the laws from it.
-use Rattle.std.proofs.Common.{◌≡◌, ℕ, zero, suc, ◌+◌, ◌-◌, ◌*◌, ◌/◌, ◌%◌, ◌<◌, ◌≤◌, Bool, true, false, cond, ◌&&◌, ◌||◌, eqb, ltb, leb, ◌⊎◌, List, [], ◌∷◌, length, get_or, set, Decides, sum, count_by, sym, refl, ap, ◌∙◌, ap₂, inl, inr, arith}
-use Rattle.std.specs.List.{AllByRecursion as All}
-use Rattle.std.proofs.lemmas.Bool.{and_parts, and_from, leb-true, ltb-true, ltb-false, eqb-true, eqb-false, le-leb, lt-ltb, le-ltb, eq-eqb, ne_eqb, cases_Bool, cases_lt, cases_eq}
-use Rattle.std.proofs.lemmas.List.Sums.{sum_by-cons, sum_by-set, sum_by-append}
-use Rattle.std.proofs.lemmas.List.{length-set, length-append, length-replicate, get_or_past, set_past}
+use Rattle.std.proofs.Common.{◌≡◌, ℕ, zero, suc, ◌+◌, ◌-◌, ◌*◌, ◌/◌, ◌%◌, ◌<◌, ◌≤◌, Bool, true, false, cond, ◌||◌, eqb, ltb, ◌⊎◌, List, [], ◌∷◌, length, get_or, set, Decides, sym, refl, ap, ◌∙◌, ap₂, inl, inr, arith}
+use Rattle.std.proofs.lemmas.Bool.{and_parts, and_from, leb-true, le-leb, lt-ltb, le-ltb, eq-eqb, ne_eqb, cases_Bool, cases_lt, cases_eq}
+use Rattle.std.proofs.lemmas.List.Sums.{sum_by-cons, sum_by-set}
+use Rattle.std.proofs.lemmas.List.{length-set, get_or_past}
 use Rattle.std.proofs.lemmas.Nat.{div-mul-add, mod-mul-add}
 use Rattle.side.specs.declared.Side.{Side}
 use Rattle.side.specs.declared.Side.TheVariants.{First, Second}
-use Rattle.rules.specs.declared.Status.{Status}
-use Rattle.rules.specs.declared.Status.TheVariants.{Open, Won, Drawn}
+use Rattle.rules.specs.declared.Status.TheVariants.{Open, Won}
 use Rattle.side.specs.TwoSides.{opponent, same_side}
 use Rattle.rules.specs.Plans.{Winnable}
-use Rattle.rules.specs.Machine.{Machine, plan_of}
 use Rattle.rules.proofs.Sound.{Sound, Kept, exact}
-use Rattle.nim_theory.specs.Nim.{Position, at, counters, filled, heap_of, take_of, held, fits, taken, status_of, by_parity, chance_of, nim, plan_at}
+use Rattle.nim_theory.specs.Nim.{Position, at, counters, filled, fits, taken, status_of, by_parity, chance_of, nim, plan_at}
 
 -- 1 where a heap holds something
 pub one : ℕ → ℕ

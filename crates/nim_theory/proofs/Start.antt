@@ -1,18 +1,17 @@
 -- The start of a game: heaps that are not there may stand as empty ones, and counters are taken, never lost.
-use Rattle.std.proofs.Common.{◌≡◌, ℕ, zero, suc, ◌+◌, ◌-◌, ◌*◌, ◌/◌, ◌%◌, ◌<◌, ◌≤◌, Bool, true, false, cond, ◌&&◌, ltb, leb, List, [], ◌∷◌, ◌++◌, length, get_or, set, replicate, sum_by, sym, refl, ap, ◌∙◌, subst, ap₂, arith}
+use Rattle.std.proofs.Common.{◌≡◌, ℕ, zero, suc, ◌+◌, ◌-◌, ◌*◌, ◌/◌, ◌%◌, ◌<◌, ◌≤◌, Bool, true, cond, ◌&&◌, ltb, leb, List, [], ◌∷◌, ◌++◌, length, set, replicate, sum_by, refl, ap, ◌∙◌, ap₂, arith}
 use mathlib.Core.Path.{fun_ext}
 use Rattle.std.proofs.lemmas.Bool.{and_parts, and_from, leb-true}
 use Rattle.std.proofs.lemmas.List.Sums.{sum_by-cons, sum_by-append}
 use Rattle.std.proofs.lemmas.List.{length-append, length-replicate}
 use Rattle.std.proofs.lemmas.Nat.{mod-mul-add}
 use Rattle.side.specs.declared.Side.{Side}
-use Rattle.side.specs.declared.Side.TheVariants.{First, Second}
-use Rattle.side.specs.TwoSides.{opponent, same_side}
-use Rattle.rules.specs.declared.Status.{Status}
-use Rattle.rules.specs.Plans.{RulesPlan, Lawful, Exact}
-use Rattle.rules.specs.Machine.{Machine, after, all_legal, plan_of, OnWay}
+use Rattle.side.specs.declared.Side.TheVariants.{First}
+use Rattle.side.specs.TwoSides.{opponent}
+use Rattle.rules.specs.Plans.{Lawful, Exact}
+use Rattle.rules.specs.Machine.{after}
 use Rattle.rules.proofs.Sound.{lawful, exact_after}
-use Rattle.nim_theory.specs.Nim.{Position, at, counters, filled, take_of, held, fits, taken, status_of, by_parity, chance_of, nim, plan_at, nim_plan, sizes, allowed, takes, Conserves, Made, MostCodes, OnTheWay, Counted}
+use Rattle.nim_theory.specs.Nim.{Position, at, counters, filled, take_of, held, fits, taken, status_of, chance_of, nim, plan_at, nim_plan, sizes, allowed, takes, Conserves, Made, MostCodes, OnTheWay, Counted}
 use Rattle.nim_theory.proofs.Counts.{Good, sound, kept, some_open, some_heap, code_fits, fit, change}
 
 -- the same heaps, with empty ones after them

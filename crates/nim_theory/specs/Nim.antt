@@ -22,14 +22,14 @@
 --   Made         what is promised of a game newly made from some heaps
 --   OnTheWay     some legal codes lead from the starting heaps to a position
 --   Counted      some legal codes lead there, and what is left and what any such took are what there was
-use Rattle.std.specs.Prelude.{◌≡◌, ℕ, ◌+◌, ◌-◌, ◌*◌, ◌/◌, ◌%◌, ◌<◌, ◌≤◌, Bool, true, false, cond, ◌&&◌, ◌||◌, ltb, List, [], ◌∷◌, length, Some, None, sum_by, sum, count_by, Option, ◌==◌, nat_le, nat_lt, slice_index, slice_set}
+use Rattle.std.specs.Prelude.{◌≡◌, ℕ, ◌+◌, ◌-◌, ◌/◌, ◌%◌, ◌≤◌, Bool, true, cond, ◌&&◌, ◌||◌, ltb, List, [], ◌∷◌, length, Some, None, sum_by, sum, count_by, Option, ◌==◌, nat_le, nat_lt, slice_index, slice_set}
 use Rattle.side.specs.declared.Side.{Side}
-use Rattle.side.specs.declared.Side.TheVariants.{First, Second}
+use Rattle.side.specs.declared.Side.TheVariants.{First}
 use Rattle.side.specs.TwoSides.{opponent, same_side}
 use Rattle.rules.specs.declared.Status.{Status}
-use Rattle.rules.specs.declared.Status.TheVariants.{Open, Won, Drawn}
+use Rattle.rules.specs.declared.Status.TheVariants.{Open, Won}
 use Rattle.rules.specs.Plans.{RulesPlan, Exact}
-use Rattle.rules.specs.Machine.{Machine, after, all_legal, plan_of, OnWay}
+use Rattle.rules.specs.Machine.{Machine, after, plan_of, OnWay}
 
 pub record Position : Type 0 where
   pub heaps : List ℕ
