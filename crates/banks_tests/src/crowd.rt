@@ -29,7 +29,7 @@ impl Bank for Crowd {
 
     ghost line = { λ b. alike b.code };
 
-    ghost few = { first_of (Prim.search rules, Prim.grind (arith, Self.row.coded.inj)) };
+    ghost few = { Prim.search rules };
 
     ghost coded = { λ b k seat w. cond_both (nat_lt k 65535) b.code 65534 (λ c. c ≤ 65535) (λ _. b.coded) (λ _. lit≤ tt) };
 
