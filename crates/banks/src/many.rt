@@ -1,6 +1,6 @@
 // A bank of players of one type, for an event whose entrants are chosen when the program runs.
 ghost use Rattle.std.specs.Prelude.{◌≡◌, ℕ, ◌≤◌, length, vec_len, vec_capacity, OnOk};
-ghost use Rattle.std.proofs.Common.{ap, lit≤, arith, rules};
+ghost use Rattle.std.proofs.Common.{ap, lit≤, arith};
 ghost use Rattle.player.specs.Answers.{resigning, Answers, AreCodes};
 ghost use Rattle.banks.specs.Numbers.{nobody, listed, Seats, Added};
 ghost use Rattle.side.specs.declared.Side.{Side};

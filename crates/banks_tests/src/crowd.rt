@@ -1,7 +1,7 @@
 // A bank as large as a bank can be: every player always answers the same code.
 ghost use Rattle.std.specs.Prelude.{◌≤◌, nat_lt};
 ghost use Rattle.banks_tests.specs.Crowds.{alike};
-ghost use Rattle.std.proofs.Common.{lit≤, rules, arith};
+ghost use Rattle.std.proofs.Common.{lit≤, rules};
 ghost use Rattle.std.proofs.lemmas.Bool.{cond_both, cond-false, le-ltb};
 ghost use Rattle.std.proofs.Math.Path.{fun_ext};
 
