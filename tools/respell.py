@@ -3,7 +3,7 @@
 
 Run once, at the top, right after the toolchain's port.py. Types and facts, which begin with a
 capital, lose their dashes (Reads-back is ReadsBack); all other names get underscores (after-codes
-is after_codes). Names of the library, and those that Rattle makes, keep their dashes.
+is after_codes). Names of the library, those that Rattle makes, and texts in quotes keep their dashes.
 """
 import glob
 import re
@@ -12,6 +12,7 @@ WORD = re.compile(r"[A-Za-zα-ωΑ-Ωℕ_][\w'ℕ≤≡₀-₉]*(?:-[\w'ℕ≤�
 SIGNATURE = re.compile(
     r"\s*(?:(?:abbrev|unfoldable|pub|record|data|ruleset|infix[lr]?)\s+)*([^\s(){}:]+)\s*(?::|\()"
 )
+QUOTED = re.compile(r'"(?:[^"\\\n]|\\.)*"')
 # names of variables, of clauses and of a record's fields that no signature of their own declares
 LOCAL = """clock-plan codes-are fed-same highest-code is-game is-known' lefts-at lefts-from lim-high lim-low
 longest-game lowest-line of-high of-low rules-plan text-end text-ends text-high text-low turns-end turns-from""".split()
@@ -62,9 +63,13 @@ def respelled(name):
 
 
 def turn(text, names, kept=()):
+    quoted = [found.span() for found in QUOTED.finditer(text)]
+
     def one(found):
         name = found.group(0)
         if name not in names or name in kept:
+            return name
+        if any(start < found.start() < end for start, end in quoted):
             return name
         for before, steps in STEPS.items():
             if name in steps and text[: found.start()].endswith(before):

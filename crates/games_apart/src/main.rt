@@ -81,7 +81,7 @@ fn play_line(rt: &HostRuntime, line: &str) -> anyhow::Result<()> {
     let (name, settings) = game.split_once(' ').unwrap_or((game, ""));
     match name {
         "nim" => play_nim(rt, settings, codes),
-        "connect_four" => play(rt, &mut ConnectFour::new(), codes),
+        "connect-four" => play(rt, &mut ConnectFour::new(), codes),
         "gomoku" => play(rt, &mut Gomoku::new(), codes),
         _ => Err(anyhow!("an unknown game")),
     }
