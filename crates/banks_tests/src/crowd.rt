@@ -1,5 +1,5 @@
 // A bank as large as a bank can be: every player always answers the same code.
-ghost use Rattle.std.specs.Prelude.{◌≤◌, nat_lt};
+ghost use Rattle.std.specs.Prelude.{◌≡◌, ◌≤◌, nat_lt};
 ghost use Rattle.banks_tests.specs.Crowds.{alike};
 ghost use Rattle.std.proofs.Common.{lit≤, rules};
 ghost use Rattle.std.proofs.lemmas.Bool.{cond_both, cond-false, le-ltb};
@@ -17,7 +17,9 @@ pub struct Crowd {
 }
 
 impl Crowd {
-    pub fn new(code: u16) -> Crowd {
+    pub fn new(code: u16) -> Crowd
+        ensures { result.code ≡ code }
+    {
         Crowd { code }
     }
 }

@@ -4,7 +4,7 @@
 --   spent     the same, but that a reading of all that is left or more changes nothing
 --   Bounded   law: left is 1 to 1,000,000,000
 --   Passing   law: a reading that is not in time is passed over
-use Rattle.std.specs.Prelude.{◌≡◌, List, [], ◌∷◌, ◌++◌, cond, ℕ, ◌≤◌, ltb}
+use Rattle.std.specs.Prelude.{◌≡◌, List, [], ◌∷◌, ◌++◌, cond, ℕ, ◌≤◌, nat_lt}
 use Rattle.side.specs.declared.Side.{Side}
 use Rattle.side.specs.TwoSides.{pick}
 
@@ -15,7 +15,7 @@ abbrev pub past : Times → Side → ℕ → Times
 past times side u s us = times s (pick side (pick s (u ∷ us) us) (pick s us (u ∷ us)))
 
 abbrev pub spent : Times → Side → ℕ → Times
-spent times side u = cond (ltb u (times side [])) (past times side u) times
+spent times side u = cond (nat_lt u (times side [])) (past times side u) times
 
 pub record Bounded (plan : Times) : Type 0 where
   pub least : (s : Side) (us : List ℕ) → 1 ≤ plan s us

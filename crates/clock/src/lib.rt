@@ -1,7 +1,7 @@
 // What a clock is, for every make: what is left for each side, and what a turn's reading takes.
 #![tactic(auto)]
 
-ghost use Rattle.std.specs.Prelude.{◌≡◌, List, [], ◌∷◌, ltb};
+ghost use Rattle.std.specs.Prelude.{◌≡◌, [], nat_lt};
 ghost use Rattle.clock.specs.Times.{Times, Bounded, Passing, spent};
 
 use side::Side;
@@ -24,7 +24,7 @@ pub trait Clock {
     // Spends a reading for a side: true in time, false where the flag has fallen.
     fn spend(&mut self, side: Side, reading: u32) -> bool
         ensures plan { plan self.new ≡ plan self.old }
-        ensures in_time { result ≡ ltb reading (line self.old side []) }
+        ensures in_time { result ≡ nat_lt reading (line self.old side []) }
         ensures line { line self.new ≡ spent (line self.old) side reading };
 
     ghost bounded: { (c : Self) → Bounded (plan c) };

@@ -1,5 +1,5 @@
 // What the time of one side is, for every make: a clock has one for each side.
-ghost use Rattle.std.specs.Prelude.{◌≡◌, [], ltb};
+ghost use Rattle.std.specs.Prelude.{◌≡◌, [], nat_lt};
 ghost use Rattle.clocks_theory.specs.Movements.{Lefts, onward, InBounds, Passes};
 
 pub trait Timer {
@@ -20,7 +20,7 @@ pub trait Timer {
     // Spends a reading: true in time, false where the flag has fallen.
     fn spend(&mut self, reading: u32) -> bool
         ensures plan { plan self.new ≡ plan self.old }
-        ensures in_time { result ≡ ltb reading (line self.old []) }
+        ensures in_time { result ≡ nat_lt reading (line self.old []) }
         ensures line { line self.new ≡ onward (line self.old) reading };
 
     ghost bounded: { (t : Self) → InBounds (plan t) };

@@ -1,7 +1,7 @@
 // Rules, clock and bank, as one game's turns are gone through and made.
 ghost use Rattle.std.specs.Prelude.{◌≡◌, [], if◌then◌else◌, nat_eq};
 ghost use Rattle.side.specs.declared.Side.TheVariants.{First};
-ghost use Rattle.side.specs.TwoSides.{opponent, of_side};
+ghost use Rattle.side.specs.TwoSides.{opponent};
 ghost use Rattle.rules.specs.Plans.{made};
 ghost use Rattle.player.specs.Answers.{shown};
 ghost use Rattle.verdict.specs.declared.Outcome.TheVariants.{WonBy, Drawn};

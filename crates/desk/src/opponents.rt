@@ -1,5 +1,5 @@
 // The two players of a game.
-ghost use Rattle.std.specs.Prelude.{◌≡◌, true, false, ◌≢◌, Some, None};
+ghost use Rattle.std.specs.Prelude.{◌≡◌, ◌≢◌, Some, None};
 ghost use Rattle.side.specs.TwoSides.{pick};
 
 use side::{PerSide, Side};

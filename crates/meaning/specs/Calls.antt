@@ -15,7 +15,7 @@
 --   side_in       the side that an entrant plays in it
 --   cell          a cell of the crosstable: 0 no ended game, 1 the row's entrant lost, 2 drawn, 3 won
 --   table_bytes   the cells by rows
-use Rattle.std.specs.Prelude.{ℕ, ◌-◌, ◌*◌, min, max, Bool, true, cond, ◌&&◌, List, [], ◌∷◌, map, length, get_or, take, drop, set, Some, None, Option, ◌==◌, nat_le, nat_lt, slice_index_or, slice_set}
+use Rattle.std.specs.Prelude.{ℕ, ◌-◌, ◌*◌, min, max, Bool, true, cond, ◌&&◌, List, [], ◌∷◌, map, length, take, drop, Some, None, Option, ◌==◌, nat_le, nat_lt, slice_index_or, slice_set}
 use Rattle.std.specs.List.{range_with_len, flat_map}
 use Rattle.side.specs.declared.Side.{Side}
 use Rattle.side.specs.declared.Side.TheVariants.{First, Second}
@@ -83,7 +83,7 @@ play_refusal T hall g us =
     (Some 5))
 
 abbrev pub rule_refusal : Terms → List Entry → ℕ → Option ℕ
-rule_refusal T entries g = cond (known T g) (cond (is_going (get_or entries g fresh).state) None (Some 8)) (Some 5)
+rule_refusal T entries g = cond (known T g) (cond (is_going (slice_index_or entries g fresh).state) None (Some 8)) (Some 5)
 
 abbrev pub tell_refusal : Terms → ℕ → ℕ → Option ℕ
 tell_refusal T size g = cond (short T size) (Some 3) (cond (known T g) None (Some 5))
@@ -102,7 +102,7 @@ abbrev pub ruled_entry : Terms → Entry → Side → Entry
 ruled_entry T e loser = record { turns = e.turns; state = (ruled T (record { turns = []; state = e.state }) loser).state }
 
 abbrev pub ruled_entries : Terms → List Entry → ℕ → Side → List Entry
-ruled_entries T entries g loser = elim (rule_refusal T entries g) [ Some n ↦ entries | None ↦ set entries g (ruled_entry T (slice_index_or entries g fresh) loser) ]
+ruled_entries T entries g loser = elim (rule_refusal T entries g) [ Some n ↦ entries | None ↦ slice_set entries g (ruled_entry T (slice_index_or entries g fresh) loser) ]
 
 abbrev pub record_bytes : Terms → Hall → ℕ → List ℕ
 record_bytes T hall g = encode (content_of_game T g (game_at T hall g))
@@ -133,7 +133,7 @@ abbrev pub side_in : Terms → ℕ → ℕ → Side
 side_in T g a = cond ((seats_of T.entrants g).first == a) First Second
 
 abbrev pub cell : Terms → List Entry → ℕ → ℕ → ℕ
-cell T entries a b = cond (a == b) 0 (result_for (side_in T (meeting T a b) a) (get_or entries (meeting T a b) fresh).state)
+cell T entries a b = cond (a == b) 0 (result_for (side_in T (meeting T a b) a) (slice_index_or entries (meeting T a b) fresh).state)
 
 abbrev pub table_bytes : Terms → List Entry → List ℕ
 table_bytes T entries = flat_map (λ a. map (cell T entries a) (range_with_len 0 T.entrants)) (range_with_len 0 T.entrants)

@@ -1,7 +1,7 @@
 // Nim: one to eight heaps of 1 to 31 counters; who takes the last counter wins.
 #![tactic(auto)]
 
-ghost use Rattle.std.specs.Prelude.{◌≡◌, ℕ, ◌-◌, ◌<◌, ◌≤◌, ◌||◌, [], ◌++◌, length, replicate, Decides, nat_lt};
+ghost use Rattle.std.specs.Prelude.{◌≡◌, ◌-◌, ◌<◌, ◌≤◌, ◌||◌, [], ◌++◌, length, replicate, Decides, nat_lt};
 ghost use Rattle.side.specs.TwoSides.{same_side};
 ghost use Rattle.side.specs.declared.Side.TheVariants.{First};
 ghost use Rattle.refusal.specs.Refusals.{Answers};

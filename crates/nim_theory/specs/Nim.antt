@@ -22,7 +22,7 @@
 --   Made         what is promised of a game newly made from some heaps
 --   OnTheWay     some legal codes lead from the starting heaps to a position
 --   Counted      some legal codes lead there, and what is left and what any such took are what there was
-use Rattle.std.specs.Prelude.{◌≡◌, ℕ, ◌+◌, ◌-◌, ◌/◌, ◌%◌, ◌≤◌, Bool, true, cond, ◌&&◌, ◌||◌, ltb, List, [], ◌∷◌, length, Some, None, sum_by, sum, count_by, Option, ◌==◌, nat_le, nat_lt, slice_index, slice_set}
+use Rattle.std.specs.Prelude.{◌≡◌, ℕ, ◌+◌, ◌-◌, ◌/◌, ◌%◌, ◌≤◌, Bool, true, cond, ◌&&◌, ◌||◌, List, [], ◌∷◌, length, Some, None, sum_by, sum, count_by, Option, ◌==◌, nat_le, nat_lt, slice_index, slice_set}
 use Rattle.side.specs.declared.Side.{Side}
 use Rattle.side.specs.declared.Side.TheVariants.{First}
 use Rattle.side.specs.TwoSides.{opponent, same_side}
@@ -42,7 +42,7 @@ abbrev pub counters : List ℕ → ℕ
 counters hs = sum hs
 
 abbrev pub filled : List ℕ → ℕ
-filled hs = count_by (λ h. ltb 0 h) hs
+filled hs = count_by (λ h. nat_lt 0 h) hs
 
 abbrev pub heap_of : ℕ → ℕ
 heap_of c = c / 32

@@ -3,7 +3,7 @@
 
 ghost use Rattle.std.specs.Prelude.{◌≡◌, ℕ, true, false, List, [], ◌∷◌, length, replicate};
 ghost use Rattle.side.specs.declared.Side.TheVariants.{First, Second};
-ghost use Rattle.rules.specs.declared.Status.TheVariants.{Open, Won};
+ghost use Rattle.rules.specs.declared.Status.TheVariants.{Won};
 ghost use Rattle.nim_theory.specs.Nim.{nim_plan};
 
 // Heaps of one counter: the last falls to the side that their number says.

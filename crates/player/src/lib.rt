@@ -1,7 +1,7 @@
 // What a player is, and a bank of players: an answer for each seat and each list of codes shown.
 #![tactic(auto)]
 
-ghost use Rattle.std.specs.Prelude.{◌≡◌, ◌≢◌, List, [], ◌∷◌, ℕ, ◌≤◌};
+ghost use Rattle.std.specs.Prelude.{◌≡◌, ◌≢◌, [], ℕ, ◌≤◌};
 ghost use Rattle.side.specs.declared.Side.{Side};
 ghost use Rattle.player.specs.Answers.{Answers, shown, AreCodes, Absent};
 

@@ -1,7 +1,8 @@
 // A pile of 1 to 9 counters. The code is how many are taken, one or more; an empty pile is a draw.
-ghost use Rattle.std.specs.Prelude.{◌≤◌};
+ghost use Rattle.std.specs.Prelude.{◌≡◌, ◌≤◌};
+ghost use Rattle.refusal.specs.Refusals.{Answers};
 ghost use Rattle.rules.specs.Machine.{plan_of, OnWay};
-ghost use Rattle.players_tests.specs.Piles.{pile};
+ghost use Rattle.players_tests.specs.Piles.{pile, pile_refusal};
 ghost use Rattle.players_tests.specs.Taking.{laws};
 ghost use Rattle.rules.proofs.Sound.{point_of};
 
@@ -19,7 +20,9 @@ pub struct Pile {
 }
 
 impl Pile {
-    pub fn new(counters: u16) -> Result<Pile, Refusal> {
+    pub fn new(counters: u16) -> Result<Pile, Refusal>
+        ensures { Answers (pile_refusal counters) (λ p. (p.full ≡ counters) × (p.left ≡ counters)) result }
+    {
         if (counters < 1) | (counters > 9) {
             return Err(Refusal::Setting);
         }

@@ -1,5 +1,5 @@
 // Reads a record: the content, or the first fault by rising place.
-ghost use Rattle.std.specs.Prelude.{◌≡◌, ◌+◌, ◌^◌, ◌<◌, ◌≤◌, List, map, length};
+ghost use Rattle.std.specs.Prelude.{◌≡◌, ◌+◌, ◌^◌, ◌<◌, ◌≤◌, map, length};
 ghost use Rattle.format.specs.Requirements.{head_requirements, pair_requirements, reading_requirements, left_requirements, text_length, turns_length, turns_in};
 ghost use Rattle.record.specs.Reading.{requirement_of, Checked, Parted, Looked, Answered, Exactly};
 

@@ -1,5 +1,5 @@
 // Writes a record at the front of a lent buffer.
-ghost use Rattle.std.specs.Prelude.{◌≡◌, ◌+◌, ◌*◌, ◌<◌, ◌≤◌, List, ◌++◌, length, is_ok, if◌then◌else◌};
+ghost use Rattle.std.specs.Prelude.{◌≡◌, ◌+◌, ◌*◌, ◌<◌, ◌≤◌, ◌++◌, length, is_ok, if◌then◌else◌};
 ghost use Rattle.refusal.specs.Refusals.{Answers};
 ghost use Rattle.format.specs.Layout.{WellFormed, encode, head, pair, pairs, half, word, turn_bytes};
 ghost use Rattle.format.specs.Laid.{laid, written, write_refusal, word_size};

@@ -1,7 +1,7 @@
 // What the rules of a game are, for every game: which codes are legal, who has won, who still has a chance.
 #![tactic(auto)]
 
-ghost use Rattle.std.specs.Prelude.{◌≡◌, ℕ, true, not, List, [], ◌∷◌};
+ghost use Rattle.std.specs.Prelude.{◌≡◌, ℕ, true, not, [], ◌∷◌};
 ghost use Rattle.rules.specs.Plans.{RulesPlan, made, Lawful, PointOf, NoWin};
 
 use side::Side;

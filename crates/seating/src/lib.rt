@@ -1,7 +1,7 @@
 // Who meets in which game: every two entrants once.
 #![tactic(auto)]
 
-ghost use Rattle.std.specs.Prelude.{◌≡◌, ℕ, ◌<◌, ◌≤◌};
+ghost use Rattle.std.specs.Prelude.{◌≡◌, ◌<◌, ◌≤◌};
 ghost use Rattle.seating.specs.Pairs.{games_of, row_start, low_of, seated, seats_if, number_if, SeatingRight};
 
 use side::PerSide;
