@@ -1,11 +1,12 @@
 -- The windows are just the straight lines of their length that lie on the board.
-use Rattle.std.proofs.Common.{◌≡◌, ℕ, zero, suc, ◌+◌, ◌-◌, ◌*◌, ◌<◌, ◌≤◌, Bool, true, ◌⊎◌, List, [], ◌∷◌, ◌++◌, map, length, take, sym, refl, ap, ◌∙◌, subst, ap₂, inl, inr, add-zero, suc-mul, zero-add, zero-mul, arith, length-append}
+use Rattle.std.proofs.Common.{◌≡◌, ℕ, zero, suc, ◌+◌, ◌-◌, ◌*◌, ◌<◌, ◌≤◌, Bool, true, ◌⊎◌, List, [], ◌∷◌, ◌++◌, map, length, take, drop, sym, refl, ap, ◌∙◌, subst, ap₂, inl, inr, add-zero, suc-mul, zero-add, zero-mul, arith, length-append}
 use native.Mathlib.Nat.{sub-zero}
 use lib.ListN.{length-map}
 use Rattle.std.specs.List.{flat_map, AllByRecursion as All}
-use Rattle.std.proofs.lemmas.List.{length-take-le}
+use Rattle.std.proofs.lemmas.List.{length-take-le, take-append-drop}
+use Rattle.std.proofs.lemmas.List.Folds.{list_all-append}
 use Rattle.std.proofs.ByRecursion.{All-take}
-use Rattle.std.proofs.lemmas.Bool.{and_parts, and_from, or_cases, or_left, or_right, cases_lt, true≢false}
+use Rattle.std.proofs.lemmas.Bool.{and_parts, or_cases, or_left, or_right, cases_lt, true≢false}
 use Rattle.board.specs.Windows.{Cell, cell, every, some, below, grid, cells, windows, in_line}
 use Rattle.board.specs.Straight.{Heading, upright, level, rising, falling, Step, Straight, Inside, LineOn, Among, WindowsRight, LinesHoldWindows, InLineRight, WindowCounts}
 
@@ -299,9 +300,8 @@ among_some p (x ∷ xs) h =
     ]
 
 every_take : {X : Type 0} (p : X → Bool) (n : ℕ) (xs : List X) → every p xs ≡ true → every p (take n xs) ≡ true
-every_take p zero xs h = refl
-every_take p (suc n) [] h = refl
-every_take p (suc n) (x ∷ xs) h = let e = and_parts _ _ h in and_from _ _ e.0 (every_take p n xs e.1)
+every_take p n xs h =
+    (and_parts _ _ (sym (list_all-append p (take n xs) (drop n xs)) ∙ ap (every p) (take-append-drop n xs) ∙ h)).0
 
 pub in_line_right : InLineRight
 unfolding in_line

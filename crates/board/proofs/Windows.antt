@@ -1,6 +1,8 @@
 -- Tests over lists.
-use Rattle.std.proofs.Common.{◌≡◌, ℕ, zero, suc, ◌+◌, ◌<◌, Bool, true, false, ◌||◌, List, [], ◌∷◌, ◌++◌, map, sym, refl, ap, ◌∙◌, subst, ap₂, inl, inr, add-one, arith}
+use Rattle.std.proofs.Common.{◌≡◌, ℕ, zero, suc, ◌+◌, ◌<◌, Bool, true, false, ◌||◌, List, [], ◌∷◌, ◌++◌, map, refl, ap, ◌∙◌, subst, ap₂, inl, inr, add-one, arith}
 use Rattle.std.specs.List.{flat_map}
+use Rattle.std.proofs.Math.Bool.{or-false}
+use Rattle.std.proofs.lemmas.List.Folds.{list_any-append}
 use Rattle.std.proofs.lemmas.Bool.{and_parts, and_from, or_cases, or_left, or_right, or_from, cases_lt}
 use Rattle.board.specs.Windows.{every, some, below, grid}
 
@@ -16,17 +18,8 @@ pub every_weaker : {X : Type 0} (p q : X → Bool) → ((x : X) → p x ≡ true
 every_weaker p q f [] h = refl
 every_weaker p q f (x ∷ xs) h = let e = and_parts _ _ h in and_from _ _ (f x e.0) (every_weaker p q f xs e.1)
 
-or_assoc : (a b c : Bool) → ((a || b) || c) ≡ (a || (b || c))
-or_assoc true b c = refl
-or_assoc false b c = refl
-
-or_none : (a : Bool) → (a || false) ≡ a
-or_none true = refl
-or_none false = refl
-
 pub some_append : {X : Type 0} (p : X → Bool) (xs ys : List X) → some p (xs ++ ys) ≡ (some p xs || some p ys)
-some_append p [] ys = refl
-some_append p (x ∷ xs) ys = ap (λ (b : Bool). p x || b) (some_append p xs ys) ∙ sym (or_assoc (p x) (some p xs) (some p ys))
+some_append p xs ys = list_any-append p xs ys
 
 some_map : {X Y : Type 0} (p : Y → Bool) (f : X → Y) (xs : List X) → some p (map f xs) ≡ some (λ x. p (f x)) xs
 some_map p f [] = refl
@@ -46,11 +39,6 @@ pub some_grid : {X : Type 0} (p : X → Bool) (f : ℕ → ℕ → X) (g : ℕ �
 some_grid p f g h rows columns =
     some_joined p (λ r. map (λ c. f r c) (below columns)) (below rows)
     ∙ some_cong _ _ (λ r. some_map p (f r) (below columns) ∙ some_cong _ _ (h r) (below columns)) (below rows)
-
--- the steps of a loop that looks for a number below n
-pub none_more : (p : ℕ → Bool) (i : ℕ) → some p (below i) ≡ false → p i ≡ false → some p (below (i + 1)) ≡ false
-none_more p i h k =
-    ap (λ (n : ℕ). some p (below n)) (add-one i) ∙ some_append p (below i) (i ∷ []) ∙ or_from _ _ h (or_none (p i) ∙ k)
 
 pub found : (p : ℕ → Bool) (i n : ℕ) → i < n → p i ≡ true → some p (below n) ≡ true
 found p i zero l h = absurd (omega arith)

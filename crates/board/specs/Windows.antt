@@ -6,8 +6,8 @@
 --   cells     some cells, the j-th by its column and its row
 --   windows   upright, level, rising and falling lines of n cells that lie on the board
 --   in_line   whether some window has all its cells among those that pass a test
-use Rattle.std.specs.Prelude.{ℕ, zero, suc, ◌+◌, ◌-◌, Bool, true, false, ◌&&◌, ◌||◌, List, [], ◌∷◌, ◌++◌, map}
-use Rattle.std.specs.List.{flat_map}
+use Rattle.std.specs.Prelude.{ℕ, zero, suc, ◌+◌, ◌-◌, Bool, List, [], ◌∷◌, ◌++◌, map}
+use Rattle.std.specs.List.{flat_map, list_all, list_any}
 
 pub record Cell : Type 0 where
   pub column : ℕ
@@ -17,12 +17,10 @@ abbrev pub cell : ℕ → ℕ → Cell
 cell c r = record { column = c; row = r }
 
 abbrev pub every : {X : Type 0} → (X → Bool) → List X → Bool
-every p [] = true
-every p (x ∷ xs) = p x && every p xs
+every = list_all
 
 abbrev pub some : {X : Type 0} → (X → Bool) → List X → Bool
-some p [] = false
-some p (x ∷ xs) = p x || some p xs
+some = list_any
 
 abbrev pub below : ℕ → List ℕ
 below zero = []

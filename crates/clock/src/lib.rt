@@ -21,7 +21,7 @@ pub trait Clock {
     fn left(&self, side: Side) -> u32
         ensures { result ≡ line self.now side [] };
 
-    // Spends a reading for a side: true in time, false where the flag has fallen.
+    // Spends a reading for a side: true in time, false where the flag has fallen, which is no error.
     fn spend(&mut self, side: Side, reading: u32) -> bool
         ensures plan { plan self.new ≡ plan self.old }
         ensures in_time { result ≡ nat_lt reading (line self.old side []) }

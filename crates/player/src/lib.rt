@@ -7,7 +7,7 @@ ghost use Rattle.player.specs.Answers.{Answers, shown, AreCodes, Absent};
 
 use side::Side;
 
-// the code of a player that resigns
+// The code of a player that resigns: a number and no variant, since a turn's 16 bits in a record hold it as any code.
 pub const RESIGNS: u16 = 65_534;
 
 pub trait Player {

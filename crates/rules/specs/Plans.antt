@@ -1,5 +1,6 @@
 -- What a game's rules say of each list of codes, and the laws of it.
 --   is_open      whether a status is open
+--   status_word  what is printed of a status: of a game that is won, the side's word
 --   RulesPlan    which lists of codes are legal; the status and who has a chance after a legal one
 --   after_codes  the rest of a plan once some codes are made
 --   made         the same for one code, but that an illegal one changes nothing
@@ -8,9 +9,10 @@
 --   Winnable     some series of legal codes wins for a side
 --   NoWin        none does
 --   Exact        after each legal list, a side has a chance exactly where some series from there wins for it
-use Rattle.std.specs.Prelude.{◌≡◌, ℕ, ◌<◌, ◌≤◌, Bool, true, false, cond, List, [], ◌∷◌, ◌++◌, length, Decides}
+use Rattle.std.specs.Prelude.{◌≡◌, ℕ, ◌<◌, ◌≤◌, Bool, true, false, cond, List, [], ◌∷◌, ◌++◌, length, codes, Decides}
 use Rattle.std.specs.List.{AllByRecursion}
 use Rattle.side.specs.declared.Side.{Side}
+use Rattle.side.specs.TwoSides.{side_word}
 use Rattle.rules.specs.declared.Status.{Status}
 use Rattle.rules.specs.declared.Status.TheVariants.{Open, Won, Drawn}
 
@@ -18,6 +20,11 @@ abbrev pub is_open : Status → Bool
 is_open Open = true
 is_open (Won s) = false
 is_open Drawn = false
+
+abbrev pub status_word : Status → List ℕ
+status_word Open = codes "open"
+status_word (Won s) = side_word s
+status_word Drawn = codes "drawn"
 
 pub record RulesPlan : Type 0 where
   pub legal : List ℕ → Bool

@@ -1,7 +1,7 @@
 -- The seating of at most sixteen entrants, by one computed test.
-use Rattle.std.proofs.Common.{◌≡◌, ℕ, zero, suc, ◌<◌, Bool, true, ◌&&◌, eqb, ltb, refl, subst, inl, inr, arith, ltb-true, eqb-true}
+use Rattle.std.proofs.Common.{◌≡◌, ℕ, zero, suc, ◌<◌, ◌≤◌, ◌+◌, ◌-◌, ap, ◌∙◌, Bool, true, ◌&&◌, eqb, ltb, refl, subst, inl, inr, arith, ltb-true, eqb-true}
 use Rattle.std.proofs.lemmas.Bool.{and_parts, cases_lt}
-use Rattle.seating.specs.Pairs.{games_of, number_of, low_of, high_of, SeatingRight}
+use Rattle.seating.specs.Pairs.{games_of, row_start, number_of, low_of, high_of, SeatingRight}
 
 -- a test of each number below one
 below_all : ℕ → (ℕ → Bool) → Bool
@@ -46,3 +46,10 @@ seating_right = record {
       let q = and_parts (eqb (low_of n (number_of n a b)) a) _ p.1 in
       (ltb-true _ _ p.0, eqb-true _ _ q.0, eqb-true _ _ q.1);
 }
+
+-- the higher entrant of a game is found from the lower one's first game
+pub found_high : (n g : ℕ) → n ≤ 16 → g < games_of n → (low start : ℕ) → low ≡ low_of n g → start ≡ row_start n low → (start ≤ g) × (low + 1 + (g - start) < n)
+found_high n g few within low start e s =
+    let p = seating_right.pair n g few within in
+    let t : start ≡ row_start n (low_of n g) = s ∙ ap (row_start n) e in
+    (omega (arith, p.2, t, p.0), omega (arith, p.1, t, e))

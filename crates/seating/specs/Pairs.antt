@@ -8,7 +8,8 @@
 --   seats_of      both seats of a game
 --   seats_if, number_if   the same, none where there is no such game or pair
 --   SeatingRight  each number below the count of games is of just one pair a < b
-use Rattle.std.specs.Prelude.{◌≡◌, ℕ, zero, suc, ◌+◌, ◌-◌, ◌*◌, ◌/◌, ◌%◌, ◌<◌, ◌≤◌, cond, ◌&&◌, Some, None, Option, ◌==◌, nat_le, nat_lt}
+use Rattle.std.specs.Prelude.{◌≡◌, ℕ, ◌+◌, ◌-◌, ◌*◌, ◌/◌, ◌%◌, ◌<◌, ◌≤◌, cond, ◌&&◌, count_by, Some, None, Option, ◌==◌, nat_le, nat_lt}
+use Rattle.std.specs.List.{range_with_len}
 use Rattle.side.specs.declared.PerSide.{PerSide}
 
 abbrev pub row_start : ℕ → ℕ → ℕ
@@ -20,13 +21,8 @@ number_of n a b = row_start n a + (b - a - 1)
 abbrev pub games_of : ℕ → ℕ
 games_of n = n * (n - 1) / 2
 
--- of the entrants 1 to k, those that begin at or before game g
-abbrev pub begun : ℕ → ℕ → ℕ → ℕ
-begun n g zero = 0
-begun n g (suc k) = cond (nat_le (row_start n (suc k)) g) 1 0 + begun n g k
-
 abbrev pub low_of : ℕ → ℕ → ℕ
-low_of n g = begun n g (n - 2)
+low_of n g = count_by (λ k. nat_le (row_start n k) g) (range_with_len 1 (n - 2))
 
 abbrev pub high_of : ℕ → ℕ → ℕ
 high_of n g = low_of n g + 1 + (g - row_start n (low_of n g))

@@ -7,27 +7,29 @@ ghost use Rattle.seating.specs.Pairs.{games_of, row_start, low_of, seated, seats
 use side::PerSide;
 
 // How many games some entrants play.
+#[tactic(auto, using(crate::proofs::Computed::seating_right))]
 pub fn games(entrants: u8) -> usize
     ensures value { result ≡ games_of entrants }
     ensures right { SeatingRight }
 {
-    let entrants = entrants as usize;
+    let entrants = usize::from(entrants);
     entrants * entrants.saturating_sub(1) / 2
 }
 
 // The first game of an entrant with those of higher number.
-fn first_game(entrants: usize, low: usize) -> usize
-    requires { (entrants ≤ 255) × (low ≤ entrants) }
+fn first_game(entrants: u8, low: u8) -> usize
+    requires { low ≤ entrants }
     ensures { result ≡ row_start entrants low }
 {
-    low * (2 * entrants - low).saturating_sub(1) / 2
+    let low = usize::from(low);
+    low * (2 * usize::from(entrants) - low).saturating_sub(1) / 2
 }
 
 fn seated(low: u8, high: u8) -> PerSide<u8>
-    requires { (low ≤ 16) × (high ≤ 16) }
     ensures { result ≡ seated low high }
 {
-    if (low + high) % 2 == 1 {
+    // one of them is odd where their sum is
+    if low % 2 != high % 2 {
         PerSide {
             first: low,
             second: high,
@@ -41,30 +43,27 @@ fn seated(low: u8, high: u8) -> PerSide<u8>
 }
 
 // The lower entrant of a game: so many entrants after the first begin their games at or before it.
-fn lower(entrants: usize, game: usize) -> usize
-    requires { (entrants ≤ 16) × (2 ≤ entrants) }
+fn lower(entrants: u8, game: usize) -> usize
+    requires { 2 ≤ entrants }
     ensures { result ≡ low_of entrants game }
 {
-    let mut low = 0;
-    for later in 1..entrants - 1 {
-        if first_game(entrants, later) <= game {
-            low += 1;
-        }
-    }
-    low
+    (1..entrants - 1)
+        .filter(|later| first_game(entrants, *later) <= game)
+        .count()
 }
 
 // Both seats of a game: the lower entrant is first where the sum of both is odd. None where there is no such game.
+#[tactic(auto, using(crate::proofs::Computed::found_high))]
 pub fn seats(entrants: u8, game: usize) -> Option<PerSide<u8>>
     ensures { result ≡ seats_if entrants game }
 {
     if entrants > 16 || game >= games(entrants) {
         return None;
     }
-    let all = entrants as usize;
-    let low = lower(all, game);
-    let high = low + 1 + (game - first_game(all, low));
-    Some(seated(low as u8, high as u8))
+    // `as`: no `From` makes a `usize` a `u8`, and both are below sixteen
+    let low = lower(entrants, game) as u8;
+    let high = low + 1 + (game - first_game(entrants, low)) as u8;
+    Some(seated(low, high))
 }
 
 // The game of two entrants; none where they are not two of the event's.
@@ -74,5 +73,5 @@ pub fn game_of(entrants: u8, low: u8, high: u8) -> Option<usize>
     if entrants > 16 || low >= high || high >= entrants {
         return None;
     }
-    Some(first_game(entrants as usize, low as usize) + (high - low - 1) as usize)
+    Some(first_game(entrants, low) + usize::from(high - low - 1))
 }

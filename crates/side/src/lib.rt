@@ -1,8 +1,10 @@
 // The two sides of a game. First begins, and they alternate.
 #![tactic(auto)]
 
-ghost use Rattle.std.specs.Prelude.{◌≡◌};
-ghost use Rattle.side.specs.TwoSides.{opponent, of_side};
+ghost use Rattle.std.specs.Prelude.{◌≡◌, Some};
+ghost use Rattle.side.specs.TwoSides.{opponent, side_word, of_side, with_side};
+
+use std::fmt;
 
 #[derive(Clone, Copy, PartialEq, Eq, Debug)]
 pub enum Side {
@@ -21,6 +23,17 @@ impl Side {
     }
 }
 
+impl fmt::Display for Side {
+    ghost output = { λ s. Some (side_word s) };
+
+    fn fmt<W: fmt::Write>(&self, f: &mut fmt::Formatter<W>) -> fmt::Result {
+        f.write_str(match self {
+            Side::First => "first",
+            Side::Second => "second",
+        })
+    }
+}
+
 // One of a thing for each side.
 #[derive(Clone, Copy, PartialEq, Eq, Debug)]
 pub struct PerSide<T> {
@@ -35,6 +48,24 @@ impl<T> PerSide<T> {
         match side {
             Side::First => &self.first,
             Side::Second => &self.second,
+        }
+    }
+}
+
+impl<T: Copy> PerSide<T> {
+    // The same, but for the thing of one side.
+    pub fn with(self, side: Side, thing: T) -> PerSide<T>
+        ensures { result ≡ with_side side thing self }
+    {
+        match side {
+            Side::First => PerSide {
+                first: thing,
+                ..self
+            },
+            Side::Second => PerSide {
+                second: thing,
+                ..self
+            },
         }
     }
 }

@@ -6,11 +6,14 @@
 --   standing_number  that of an ended game, and 0 of an open one
 --   listed           the numbers that a record may have
 --   standing_of      how a game with a listed number stands
+--   is_numbered      whether a number is listed and is not 0: whether it is a verdict's
+--   Numbered         what a number names: its verdict, or nothing where no verdict has it
 --   NumbersRight     the listed numbers are those of the verdicts and 0, and each is of one standing
-use Rattle.std.specs.Prelude.{◌≡◌, ℕ, ◌+◌, ◌*◌, Bool, true, false, cond, ◌||◌, List, [], ◌∷◌, Some, None, Option, ◌==◌}
+use Rattle.std.specs.Prelude.{◌≡◌, ℕ, ◌+◌, ◌*◌, Bool, true, false, cond, not, ◌&&◌, ◌||◌, List, [], ◌∷◌, Some, None, Option, Ok, Err, Result, ◌==◌}
 use Rattle.side.specs.declared.Side.TheVariants.{First, Second}
 use Rattle.verdict.specs.declared.Outcome.{Outcome}
 use Rattle.verdict.specs.declared.Outcome.TheVariants.{WonBy, Drawn}
+use Rattle.verdict.specs.declared.Unlisted.{Unlisted}
 use Rattle.verdict.specs.declared.Verdict.{Verdict}
 use Rattle.verdict.specs.declared.Verdict.TheVariants.{Rules, Flag, Illegal, Resignation, TurnLimit, Ruling}
 
@@ -68,6 +71,13 @@ standing_of n =
     (cond (n == 61) (Some (Ruling First))
     (cond (n == 62) (Some (Ruling Second))
     None))))))))))))
+
+abbrev pub is_numbered : ℕ → Bool
+is_numbered n = not (n == 0) && is_listed n
+
+abbrev pub Numbered : ℕ → Result Verdict Unlisted → Type 0
+Numbered n (Ok v) = (is_numbered n ≡ true) × (standing_of n ≡ Some v)
+Numbered n (Err e) = is_numbered n ≡ false
 
 pub record NumbersRight : Type 0 where
   pub of_listed : (n : ℕ) → is_listed n ≡ true → standing_number (standing_of n) ≡ n

@@ -9,6 +9,6 @@ returns g c =
     record {
       value = ap not c.chance.ensures;
       no_win = λ h.
-          no_win g.R.Rules.codes g.R.Rules.longest (g.R.Rules.plan x) (g.R.Rules.line x) (g.met.R.Rules.lawful x) (g.met.R.Rules.point x) c.args.side
+          no_win g.R.Rules.CODES g.R.Rules.LONGEST (g.R.Rules.plan x) (g.R.Rules.line x) (g.met.R.Rules.lawful x) (g.met.R.Rules.point x) c.args.side
           (sym c.chance.ensures ∙ not-true c.chance.result h);
     }
