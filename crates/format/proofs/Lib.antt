@@ -6,3 +6,4 @@ pub mod Back
 pub mod LaidOut
 pub mod Enough
 pub mod Accepted
+pub mod Turns

@@ -7,8 +7,9 @@
 --   requirements all of them, the length first, then by rising place
 --   Found        a fault's number and place
 --   first_fault  the first requirement that does not hold
+--   PartedInto   the text of t bytes, the turns of n bytes and the lefts that stand in some bytes
 --   PartedAt     head and pairs hold, the text ends at one place and the turns at another
-use Rattle.std.specs.Prelude.{◌≡◌, ℕ, zero, suc, ◌+◌, ◌*◌, ◌/◌, ◌%◌, Bool, true, cond, not, ◌&&◌, List, [], ◌∷◌, ◌++◌, length, take, drop, Some, None, Option, ◌==◌, nat_le, slice_index}
+use Rattle.std.specs.Prelude.{◌≡◌, ℕ, zero, suc, ◌+◌, ◌*◌, ◌/◌, ◌%◌, Bool, true, not, ◌&&◌, List, [], ◌∷◌, ◌++◌, length, take, drop, Some, None, Option, ◌==◌, nat_le, slice_index, if◌then◌else◌}
 use Rattle.verdict.specs.declared.Turn.{Turn}
 use Rattle.verdict.specs.Verdicts.{standing_of, is_listed}
 use Rattle.format.specs.Layout.{Content, version, longest_text}
@@ -80,13 +81,16 @@ head_requirements b =
     ∷ must 11 10 (half_at b 10 == 3)
     ∷ []
 
--- t and n are the text's and the turns' lengths, in bytes
-abbrev pub pair_requirements : List ℕ → ℕ → ℕ → List Requirement
-pair_requirements b t n =
+-- of a record of so many bytes that begins as b; t and n are the text's and the turns' lengths, in bytes
+abbrev pub sized_pair_requirements : List ℕ → ℕ → ℕ → ℕ → List Requirement
+sized_pair_requirements b size t n =
     must 12 12 (word_at b 12 == 36 && (nat_le 1 t && nat_le t longest_text))
     ∷ must 12 20 (word_at b 20 == 36 + t && (n % 6 == 0 && nat_le (n / 6) (half_at b 8)))
-    ∷ must 12 28 (word_at b 28 == 36 + t + n && (word_at b 32 == 8 && 36 + t + n + 8 == length b))
+    ∷ must 12 28 (word_at b 28 == 36 + t + n && (word_at b 32 == 8 && 36 + t + n + 8 == size))
     ∷ []
+
+abbrev pub pair_requirements : List ℕ → ℕ → ℕ → List Requirement
+pair_requirements b t n = sized_pair_requirements b (length b) t n
 
 abbrev pub reading_requirements : ℕ → List Turn → List Requirement
 reading_requirements place [] = []
@@ -115,7 +119,7 @@ found n p = record { number = n; place = p }
 
 abbrev pub first_fault : List Requirement → Option Found
 first_fault [] = None
-first_fault (d ∷ ds) = cond d.holds (first_fault ds) (Some (found d.number d.place))
+first_fault (d ∷ ds) = if d.holds then first_fault ds else Some (found d.number d.place)
 
 pub record PartedAt (b : List ℕ) (text_end turns_end : ℕ) : Type 0 where
   pub rest : first_fault (requirements b) ≡ first_fault (part_requirements b)
@@ -124,3 +128,9 @@ pub record PartedAt (b : List ℕ) (text_end turns_end : ℕ) : Type 0 where
   pub after_turns : turns_end ≡ text_end + turns_length b
   pub whole : turns_length b % 6 ≡ 0
   pub ends : turns_end + 8 ≡ length b
+
+pub record PartedInto (b : List ℕ) (t n : ℕ) (text turns : List ℕ) (first second : ℕ) : Type 0 where
+  pub text_is : text ≡ take t (drop 36 b)
+  pub turns_are : turns ≡ take n (drop t (drop 36 b))
+  pub first_is : first ≡ word_at (drop n (drop t (drop 36 b))) 0
+  pub second_is : second ≡ word_at (drop n (drop t (drop 36 b))) 4

@@ -5,33 +5,12 @@ use report::line;
 use std::io::Read;
 
 // one byte more than the longest record has: what follows decides nothing
-const ENOUGH: usize = 1645;
+const ENOUGH: u64 = 1645;
 
-// The input's bytes, no more than are needed.
-fn gather(rt: &HostRuntime) -> anyhow::Result<Vec<u8>> {
-    let mut input = rt.stdin();
+fn main(rt: HostRuntime) -> anyhow::Result<()> {
     let mut bytes = Vec::new(rt.alloc());
-    let mut chunk = [0u8; 512];
-    for _ in 0..ENOUGH {
-        if bytes.len() >= ENOUGH {
-            break;
-        }
-        let count = input.read(&mut chunk)?;
-        if count == 0 {
-            break;
-        }
-        bytes.extend_from_slice(&chunk[0..count])?;
-    }
-    Ok(bytes)
-}
-
-fn run(rt: &HostRuntime) -> anyhow::Result<()> {
-    let bytes = gather(rt)?;
+    rt.stdin().take(ENOUGH).read_to_end(&mut bytes)?;
     let text = line(rt.alloc(), bytes.as_slice())?;
     rt.println(text)?;
     Ok(())
-}
-
-fn main(rt: HostRuntime) -> anyhow::Result<()> {
-    run(&rt)
 }

@@ -2,7 +2,8 @@
 --   field_place, part_place   where a field of the head, or a part's pair, stands
 --   fault_number, fault_place  a fault's number and place
 --   found_of                  both
-use Rattle.std.specs.Prelude.{ℕ}
+--   refused_line              what is printed of them: `refused`, the number and the place, one blank between
+use Rattle.std.specs.Prelude.{ℕ, List, ◌++◌, codes, decimal}
 use Rattle.format.specs.Requirements.{Found, found}
 use Rattle.record.specs.declared.fault.HeadField.{HeadField}
 use Rattle.record.specs.declared.fault.HeadField.TheVariants.{Mark, SecondMark, Version, Byte3, FirstEntrant, SecondEntrant, Verdict, Byte7, Limit, PairCount}
@@ -44,3 +45,6 @@ fault_place (Left p) = p
 
 abbrev pub found_of : Fault → Found
 found_of f = found (fault_number f) (fault_place f)
+
+abbrev pub refused_line : Found → List ℕ
+refused_line f = codes "refused " ++ (decimal f.number ++ (codes " " ++ decimal f.place))

@@ -1,35 +1,26 @@
 -- What reading answers.
 --   lent_turns   the turns that lie in a record's bytes
 --   Checked      the first of some requirements that does not hold is answered as the fault
+--   Looked       a content as the bytes say it, and each is a byte; or the first fault
 --   Answered     the content that the bytes say, or the first fault by rising place
 --   Exactly      the bytes encode that content, which is well-formed; on a fault they encode none
 use Rattle.std.specs.Prelude.{◌≡◌, ℕ, List, Some, None, Ok, Err, Result}
 use Rattle.verdict.specs.declared.Turn.{Turn}
 use Rattle.format.specs.Layout.{Content}
-use Rattle.format.specs.Requirements.{Requirement, must, requirements, first_fault, turns_in, PartedAt}
+use Rattle.format.specs.Requirements.{Requirement, requirements, first_fault, turns_in}
 use Rattle.format.specs.Promises.{Bytes, Reads, Encodes}
 use Rattle.record.specs.declared.content.Record.{Record}
 use Rattle.record.specs.declared.content.TurnBytes.{TurnBytes}
 use Rattle.record.specs.declared.fault.Fault.{Fault}
-use Rattle.record.specs.declared.reader.Check.{Check}
-use Rattle.record.specs.declared.reader.Places.{Places}
 use Rattle.record.specs.Contents.{content}
-use Rattle.record.specs.Faults.{fault_number, fault_place, found_of}
+use Rattle.record.specs.Faults.{found_of}
 
 abbrev pub lent_turns : TurnBytes → List Turn
 lent_turns t = turns_in t.0.now
 
-abbrev pub requirement_of : Check → Requirement
-requirement_of c = must (fault_number c.fault) (fault_place c.fault) c.holds
-
 abbrev pub Checked : {A : Type 0} → List Requirement → Result A Fault → Type 0
 Checked ds (Ok x) = first_fault ds ≡ None
 Checked ds (Err f) = first_fault ds ≡ Some (found_of f)
-
--- where the text and the turns end, or the first fault of head and pairs
-abbrev pub Parted : List ℕ → Result Places Fault → Type 0
-Parted b (Ok p) = PartedAt b p.text_end p.turns_end
-Parted b (Err f) = first_fault (requirements b) ≡ Some (found_of f)
 
 abbrev pub Looked : List ℕ → Result (Record TurnBytes) Fault → Type 0
 Looked b (Ok r) = Reads b (content lent_turns r) × Bytes b

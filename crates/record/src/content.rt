@@ -1,8 +1,8 @@
 // What a record says, whatever holds its turns.
-ghost use Rattle.std.specs.Prelude.{◌≡◌, ◌+◌, ◌<◌, List, length};
+ghost use Rattle.std.specs.Prelude.{◌≡◌, ◌+◌, ◌/◌, ◌<◌, List, map, length};
 ghost use Rattle.std.specs.List.{slice_get};
 ghost use Rattle.verdict.specs.declared.Turn.{Turn};
-ghost use Rattle.format.specs.Requirements.{half_at, word_at, turns_in};
+ghost use Rattle.format.specs.Requirements.{half_at, word_at, turn_at, turns_in};
 
 use side::PerSide;
 use verdict::{Turn, Verdict};
@@ -37,16 +37,11 @@ impl Turns for TurnList<'_> {
     ghost turns = { λ t. t.0.now };
 
     fn count(&self) -> usize {
-        let turns = self.0;
-        turns.len()
+        self.0.len()
     }
 
     fn turn(&self, number: usize) -> Option<Turn> {
-        if number < self.0.len() {
-            Some(self.0[number])
-        } else {
-            None
-        }
+        self.0.get(number).copied()
     }
 }
 
@@ -54,7 +49,7 @@ impl Turns for TurnList<'_> {
 #[derive(Clone, Copy)]
 pub struct TurnBytes<'a>(pub &'a [u8]);
 
-// The number in two bytes, the lowest first.
+// The number in two bytes, the lowest first: by its place, as the format's table counts, and not by a piece cut out before.
 pub(crate) fn half(bytes: &[u8], place: usize) -> u16
     requires { place + 1 < length bytes.now }
     ensures { result ≡ half_at bytes.now place }
@@ -62,6 +57,7 @@ pub(crate) fn half(bytes: &[u8], place: usize) -> u16
     u16::from_le_bytes([bytes[place], bytes[place + 1]])
 }
 
+// No one text with `half`: each number has a `from_le_bytes` of its own.
 pub(crate) fn word(bytes: &[u8], place: usize) -> u32
     requires { place + 3 < length bytes.now }
     ensures { result ≡ word_at bytes.now place }
@@ -74,22 +70,37 @@ pub(crate) fn word(bytes: &[u8], place: usize) -> u32
     ])
 }
 
+// The turn in six bytes: its code, and its reading.
+pub(crate) fn turn_of(bytes: &[u8; 6]) -> Turn
+    ensures { result ≡ turn_at bytes.now }
+{
+    Turn {
+        code: half(bytes, 0),
+        reading: word(bytes, 2),
+    }
+}
+
+impl<'a> TurnBytes<'a> {
+    // The bytes turn by turn; fewer than six at the end are none.
+    #[tactic(auto, using(format::proofs::TurnParts::turns_in_chunks))]
+    pub(crate) fn chunks(self) -> &'a [[u8; 6]]
+        ensures turns { turns_in self.entry.0.now ≡ map turn_at result.now }
+        ensures count { length result.now ≡ length self.entry.0.now / 6 }
+    {
+        let (turns, _) = self.0.as_chunks();
+        turns
+    }
+}
+
 impl Turns for TurnBytes<'_> {
     ghost turns = { λ t. turns_in t.0.now };
 
     fn count(&self) -> usize {
-        let bytes = self.0;
-        bytes.len() / 6
+        self.chunks().len()
     }
 
+    #[tactic(auto, using(format::proofs::TurnParts::turn_among))]
     fn turn(&self, number: usize) -> Option<Turn> {
-        if number >= self.0.len() / 6 {
-            return None;
-        }
-        let place = 6 * number;
-        Some(Turn {
-            code: half(self.0, place),
-            reading: word(self.0, place + 2),
-        })
+        self.chunks().get(number).map(turn_of)
     }
 }

@@ -1,26 +1,31 @@
 // What is wrong with bytes that are no record, and where.
-ghost use Rattle.std.specs.Prelude.{◌≡◌};
-ghost use Rattle.record.specs.Faults.{field_place, part_place, fault_number, fault_place};
+ghost use Rattle.std.specs.Prelude.{◌≡◌, Some};
+ghost use Rattle.record.specs.Faults.{field_place, part_place, fault_number, fault_place, found_of, refused_line};
 
+use std::error::Error;
+use std::fmt;
+
+// A field of the head, by its place.
 #[derive(Clone, Copy, PartialEq, Eq, Debug)]
 pub enum HeadField {
-    Mark,
-    SecondMark,
-    Version,
-    Byte3,
-    FirstEntrant,
-    SecondEntrant,
-    Verdict,
-    Byte7,
-    Limit,
-    PairCount,
+    Mark = 0,
+    SecondMark = 1,
+    Version = 2,
+    Byte3 = 3,
+    FirstEntrant = 4,
+    SecondEntrant = 5,
+    Verdict = 6,
+    Byte7 = 7,
+    Limit = 8,
+    PairCount = 10,
 }
 
+// A part of the record, by the place of its pair of offset and length.
 #[derive(Clone, Copy, PartialEq, Eq, Debug)]
 pub enum Part {
-    Text,
-    Turns,
-    Lefts,
+    Text = 12,
+    Turns = 20,
+    Lefts = 28,
 }
 
 #[derive(Clone, Copy, PartialEq, Eq, Debug)]
@@ -39,18 +44,7 @@ impl HeadField {
     pub fn place(self) -> usize
         ensures { result ≡ field_place self }
     {
-        match self {
-            HeadField::Mark => 0,
-            HeadField::SecondMark => 1,
-            HeadField::Version => 2,
-            HeadField::Byte3 => 3,
-            HeadField::FirstEntrant => 4,
-            HeadField::SecondEntrant => 5,
-            HeadField::Verdict => 6,
-            HeadField::Byte7 => 7,
-            HeadField::Limit => 8,
-            HeadField::PairCount => 10,
-        }
+        self as usize
     }
 }
 
@@ -59,11 +53,7 @@ impl Part {
     pub fn place(self) -> usize
         ensures { result ≡ part_place self }
     {
-        match self {
-            Part::Text => 12,
-            Part::Turns => 20,
-            Part::Lefts => 28,
-        }
+        self as usize
     }
 }
 
@@ -72,11 +62,9 @@ impl Fault {
         ensures { result ≡ fault_number self }
     {
         match self {
-            Fault::Short(_) => 11,
-            Fault::Head(_) => 11,
+            Fault::Short(_) | Fault::Head(_) => 11,
             Fault::Pair(_) => 12,
-            Fault::Reading(_) => 13,
-            Fault::Left(_) => 13,
+            Fault::Reading(_) | Fault::Left(_) => 13,
         }
     }
 
@@ -84,11 +72,21 @@ impl Fault {
         ensures { result ≡ fault_place self }
     {
         match self {
-            Fault::Short(length) => length,
             Fault::Head(field) => field.place(),
             Fault::Pair(part) => part.place(),
-            Fault::Reading(place) => place,
-            Fault::Left(place) => place,
+            Fault::Short(place) | Fault::Reading(place) | Fault::Left(place) => place,
         }
     }
 }
+
+impl fmt::Display for Fault {
+    ghost output = { λ f. Some (refused_line (found_of f)) };
+
+    fn fmt<W: fmt::Write>(&self, f: &mut fmt::Formatter<W>) -> fmt::Result {
+        let number = self.number();
+        let place = self.place();
+        write!(f, "refused {number} {place}")
+    }
+}
+
+impl Error for Fault {}

@@ -3,5 +3,6 @@
 
 pub mod content;
 pub mod fault;
+mod layout;
 pub mod reader;
 pub mod writer;

@@ -1,196 +1,162 @@
 // Reads a record: the content, or the first fault by rising place.
-ghost use Rattle.std.specs.Prelude.{◌≡◌, ◌+◌, ◌^◌, ◌<◌, ◌≤◌, map, length};
-ghost use Rattle.format.specs.Requirements.{head_requirements, pair_requirements, reading_requirements, left_requirements, text_length, turns_length, turns_in};
-ghost use Rattle.record.specs.Reading.{requirement_of, Checked, Parted, Looked, Answered, Exactly};
+ghost use Rattle.std.specs.Prelude.{◌≡◌, ◌+◌, ◌^◌, ◌<◌, ◌≤◌, ◌++◌, length, true, false, ◌&&◌, nat_le, nat_lt, MatchResult, IfOk, IfSome, slice_index};
+ghost use Rattle.format.specs.Requirements.{head_requirements, sized_pair_requirements, text_length, turns_length, reading_requirements, left_requirements, turn_at, turns_in, PartedInto};
+ghost use Rattle.std.specs.List.{position};
+ghost use Rattle.verdict.specs.Verdicts.{standing_of};
+ghost use Rattle.record.specs.Reading.{Checked, Looked, Answered, Exactly};
 
-use crate::content::{Record, TurnBytes, Turns, half, word};
+use crate::content::{Record, TurnBytes, Turns, half, turn_of, word};
 use crate::fault::{Fault, HeadField, Part};
+use crate::layout::{LEFTS, MARK, PAIRS, SECOND_MARK, SHORTEST, TEXT, VERSION};
 use side::PerSide;
-use verdict::standing_of;
-
-// the shortest record: head, pairs and lefts
-const SHORTEST: usize = 44;
-// the text begins after the head and the pairs
-const TEXT: usize = 36;
+use verdict::{Verdict, standing_of};
 
 const LONGEST_TEXT: usize = 64;
 
-const VERSION: u8 = 1;
-
 const LONGEST_READING: u32 = 86_400_000;
 
-const MOST_LEFT: u32 = 1_000_000_000;
+const MOST_LEFT: usize = 1_000_000_000;
 
-// What must hold, and the fault if it does not.
+// A requirement, and the fault where it does not hold.
+fn require(holds: bool, fault: Fault) -> Result<(), Fault>
+    ensures { MatchResult result (λ _. holds ≡ true) (λ f. (holds ≡ false) × (f ≡ fault)) }
+{
+    if holds { Ok(()) } else { Err(fault) }
+}
+
+// Whether a number is one of 1 to `most`.
+fn from_one(number: usize, most: usize) -> bool
+    ensures { result ≡ (nat_le 1 number && nat_le number most) }
+{
+    (1..=most).contains(&number)
+}
+
+// How the game stands, once each field of the head is as it must be: row by row, as the specification lists them.
+fn check_head(head: &[u8; SHORTEST]) -> Result<Option<Verdict>, Fault>
+    ensures checked { Checked (head_requirements head.now) result }
+    ensures verdict { IfOk result (λ v. v ≡ standing_of (slice_index head.now 6)) }
+{
+    require(head[0] == MARK, Fault::Head(HeadField::Mark))?;
+    require(head[1] == SECOND_MARK, Fault::Head(HeadField::SecondMark))?;
+    require(head[2] == VERSION, Fault::Head(HeadField::Version))?;
+    require(head[3] == 0, Fault::Head(HeadField::Byte3))?;
+    require(head[4] <= 15, Fault::Head(HeadField::FirstEntrant))?;
+    require(
+        head[5] <= 15 && head[5] != head[4],
+        Fault::Head(HeadField::SecondEntrant),
+    )?;
+    let verdict = standing_of(head[6]).map_err(|_| Fault::Head(HeadField::Verdict))?;
+    require(head[7] == 0, Fault::Head(HeadField::Byte7))?;
+    require(
+        from_one(usize::from(half(head, 8)), 256),
+        Fault::Head(HeadField::Limit),
+    )?;
+    require(
+        half(head, 10) == u16::from(PAIRS),
+        Fault::Head(HeadField::PairCount),
+    )?;
+    Ok(verdict)
+}
+
+// What follows the head and the pairs.
 #[derive(Clone, Copy)]
-struct Check {
-    holds: bool,
-    fault: Fault,
+struct Parts<'a> {
+    text: &'a [u8],
+    turns: TurnBytes<'a>,
+    lefts: PerSide<u32>,
 }
 
-fn first_fault(checks: &[Check]) -> Result<(), Fault>
-    ensures { Checked (map requirement_of checks.now) result }
+// The parts, once each pair is as it must be; the bytes begin with `front`.
+fn split_parts<'a>(front: &[u8; SHORTEST], bytes: &'a [u8]) -> Result<Parts<'a>, Fault>
+    ensures checked { Checked (sized_pair_requirements front.now (length bytes.now) (text_length front.now) (turns_length front.now)) result }
+    ensures parts { IfOk result (λ p. PartedInto bytes.now (text_length front.now) (turns_length front.now) p.text.now p.turns.0.now p.lefts.first p.lefts.second) }
 {
-    for check in checks {
-        if !check.holds {
-            return Err(check.fault);
-        }
-    }
-    Ok(())
+    let limit = usize::from(half(front, 8));
+    let text = word(front, 16) as usize;
+    let turns = word(front, 24) as usize;
+    require(
+        word(front, 12) as usize == TEXT && from_one(text, LONGEST_TEXT),
+        Fault::Pair(Part::Text),
+    )?;
+    require(
+        word(front, 20) as usize == TEXT + text && turns % 6 == 0 && turns / 6 <= limit,
+        Fault::Pair(Part::Turns),
+    )?;
+    require(
+        word(front, 28) as usize == TEXT + text + turns
+            && word(front, 32) as usize == LEFTS
+            && TEXT + text + turns + LEFTS == bytes.len(),
+        Fault::Pair(Part::Lefts),
+    )?;
+    let (_, body) = bytes.split_at(TEXT);
+    let (text, rest) = body.split_at(text);
+    let (turns, lefts) = rest.split_at(turns);
+    Ok(Parts {
+        text,
+        turns: TurnBytes(turns),
+        lefts: PerSide {
+            first: word(lefts, 0),
+            second: word(lefts, 4),
+        },
+    })
 }
 
-fn head_checks(bytes: &[u8]) -> [Check; 10]
-    requires { 44 ≤ length bytes.now }
-    ensures { map requirement_of result ≡ head_requirements bytes.now }
+// The first turn with a reading above what a turn may take.
+fn first_slow(turns: &[[u8; 6]]) -> Option<usize>
+    ensures place { result ≡ position (λ t. nat_lt 86400000 (turn_at t).reading) turns.now }
+    ensures within { IfSome result (λ number. number < length turns.now) }
 {
-    let limit = half(bytes, 8);
-    [
-        Check {
-            holds: bytes[0] == 0x47,
-            fault: Fault::Head(HeadField::Mark),
-        },
-        Check {
-            holds: bytes[1] == 0x52,
-            fault: Fault::Head(HeadField::SecondMark),
-        },
-        Check {
-            holds: bytes[2] == VERSION,
-            fault: Fault::Head(HeadField::Version),
-        },
-        Check {
-            holds: bytes[3] == 0,
-            fault: Fault::Head(HeadField::Byte3),
-        },
-        Check {
-            holds: bytes[4] <= 15,
-            fault: Fault::Head(HeadField::FirstEntrant),
-        },
-        Check {
-            holds: (bytes[5] <= 15) & (bytes[5] != bytes[4]),
-            fault: Fault::Head(HeadField::SecondEntrant),
-        },
-        Check {
-            holds: standing_of(bytes[6]).is_ok(),
-            fault: Fault::Head(HeadField::Verdict),
-        },
-        Check {
-            holds: bytes[7] == 0,
-            fault: Fault::Head(HeadField::Byte7),
-        },
-        Check {
-            holds: (1 <= limit) & (limit <= 256),
-            fault: Fault::Head(HeadField::Limit),
-        },
-        Check {
-            holds: half(bytes, 10) == 3,
-            fault: Fault::Head(HeadField::PairCount),
-        },
-    ]
-}
-
-fn pair_checks(bytes: &[u8]) -> [Check; 3]
-    requires { 44 ≤ length bytes.now }
-    ensures { map requirement_of result ≡ pair_requirements bytes.now (text_length bytes.now) (turns_length bytes.now) }
-{
-    let limit = half(bytes, 8) as usize;
-    let text_from = word(bytes, 12) as usize;
-    let text = word(bytes, 16) as usize;
-    let turns_from = word(bytes, 20) as usize;
-    let turns = word(bytes, 24) as usize;
-    let lefts_from = word(bytes, 28) as usize;
-    let lefts = word(bytes, 32);
-    let turns_end = TEXT + text + turns;
-    [
-        Check {
-            holds: (text_from == TEXT) & ((1 <= text) & (text <= LONGEST_TEXT)),
-            fault: Fault::Pair(Part::Text),
-        },
-        Check {
-            holds: (turns_from == TEXT + text) & ((turns % 6 == 0) & (turns / 6 <= limit)),
-            fault: Fault::Pair(Part::Turns),
-        },
-        Check {
-            holds: (lefts_from == turns_end) & ((lefts == 8) & (turns_end + 8 == bytes.len())),
-            fault: Fault::Pair(Part::Lefts),
-        },
-    ]
+    turns
+        .iter()
+        .position(|turn| turn_of(turn).reading > LONGEST_READING)
 }
 
 // The turns' bytes begin at `place` of the record.
-#[tactic(auto, using(format::proofs::Places::reading_at))]
 fn check_readings(turns: TurnBytes<'_>, place: usize) -> Result<(), Fault>
     requires { place + length turns.0.now < 2 ^ 64 }
     ensures { Checked (reading_requirements place (turns_in turns.entry.0.now)) result }
 {
-    for number in 0..turns.0.len() / 6 {
-        if word(turns.0, 6 * number + 2) > LONGEST_READING {
-            return Err(Fault::Reading(place + 6 * number));
-        }
+    match first_slow(turns.chunks()) {
+        Some(number) => Err(Fault::Reading(place + 6 * number)),
+        None => Ok(()),
     }
-    Ok(())
 }
 
-fn left_checks(place: usize, lefts: PerSide<u32>) -> [Check; 2]
+fn check_lefts(lefts: PerSide<u32>, place: usize) -> Result<(), Fault>
     requires { place + 4 < 2 ^ 64 }
-    ensures { map requirement_of result ≡ left_requirements place lefts.first lefts.second }
+    ensures { Checked (left_requirements place lefts.first lefts.second) result }
 {
-    [
-        Check {
-            holds: (1 <= lefts.first) & (lefts.first <= MOST_LEFT),
-            fault: Fault::Left(place),
-        },
-        Check {
-            holds: (1 <= lefts.second) & (lefts.second <= MOST_LEFT),
-            fault: Fault::Left(place + 4),
-        },
-    ]
+    require(
+        from_one(lefts.first as usize, MOST_LEFT),
+        Fault::Left(place),
+    )?;
+    require(
+        from_one(lefts.second as usize, MOST_LEFT),
+        Fault::Left(place + 4),
+    )
 }
 
-// Where the text and the turns end.
-#[derive(Clone, Copy)]
-struct Places {
-    text_end: usize,
-    turns_end: usize,
-}
-
-fn find_parts(bytes: &[u8]) -> Result<Places, Fault>
-    ensures { Parted bytes.now result }
-{
-    if bytes.len() < SHORTEST {
-        return Err(Fault::Short(bytes.len()));
-    }
-    first_fault(&head_checks(bytes))?;
-    first_fault(&pair_checks(bytes))?;
-    let text_end = TEXT + word(bytes, 16) as usize;
-    let turns_end = text_end + word(bytes, 24) as usize;
-    Ok(Places {
-        text_end,
-        turns_end,
-    })
-}
-
+// Apart from `read`, so that each way out owes one fact, from which both of `read` follow.
+#[tactic(auto, using(format::proofs::Places::short_fault))]
 fn look(bytes: &[u8]) -> Result<Record<'_, TurnBytes<'_>>, Fault>
     ensures { Looked bytes.now result }
 {
-    let Places {
-        text_end,
-        turns_end,
-    } = find_parts(bytes)?;
-    let turns = TurnBytes(&bytes[text_end..turns_end]);
-    check_readings(turns, text_end)?;
-    let lefts = PerSide {
-        first: word(bytes, turns_end),
-        second: word(bytes, turns_end + 4),
+    let Some(front) = bytes.first_chunk::<SHORTEST>() else {
+        return Err(Fault::Short(bytes.len()));
     };
-    first_fault(&left_checks(turns_end, lefts))?;
+    let verdict = check_head(front)?;
+    let Parts { text, turns, lefts } = split_parts(front, bytes)?;
+    let text_end = TEXT + text.len();
+    check_readings(turns, text_end)?;
+    check_lefts(lefts, text_end + turns.0.len())?;
     Ok(Record {
         seats: PerSide {
-            first: bytes[4],
-            second: bytes[5],
+            first: front[4],
+            second: front[5],
         },
-        verdict: standing_of(bytes[6]).unwrap(),
-        limit: half(bytes, 8),
-        text: &bytes[TEXT..text_end],
+        verdict,
+        limit: half(front, 8),
+        text,
         turns,
         lefts,
     })

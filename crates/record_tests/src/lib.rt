@@ -13,17 +13,15 @@ mod tests {
 
     // The number and place of the first fault.
     fn fault_of(bytes: &[u8]) -> Option<(u8, usize)> {
-        match read(bytes) {
-            Ok(_) => None,
-            Err(fault) => Some((fault.number(), fault.place())),
-        }
+        let fault = read(bytes).err()?;
+        Some((fault.number(), fault.place()))
     }
 
     // The sample with one byte changed.
     fn damaged(place: usize, value: u8) -> Option<(u8, usize)> {
         let mut bytes = sample();
-        if place < 57 {
-            bytes[place] = value;
+        if let Some(byte) = bytes.get_mut(place) {
+            *byte = value;
         }
         fault_of(&bytes)
     }
@@ -101,40 +99,38 @@ mod tests {
     #[test]
     fn the_sample(rt: HostRuntime) -> Result<(), Fail> {
         let bytes = sample();
-        match read(&bytes) {
-            Ok(found) => {
-                assert_eq!(rt;
-                    found.seats,
-                    PerSide {
-                        first: 0,
-                        second: 1,
-                    }
-                );
-                assert_eq!(rt; standing_number(found.verdict), 12);
-                assert_eq!(rt; found.limit, 10);
-                assert_eq!(rt; found.turns.count(), 2);
-                assert_eq!(rt;
-                    found.turns.turn(1),
-                    Some(Turn {
-                        code: 33,
-                        reading: 7,
-                    })
-                );
-                assert_eq!(rt; found.turns.turn(2), None);
-                assert_eq!(rt;
-                    found.lefts,
-                    PerSide {
-                        first: 995,
-                        second: 993,
-                    }
-                );
-                let mut again = [7u8; 60];
-                assert_eq!(rt; found.write(&mut again), Ok(57));
-                assert!(rt; again[0] == 0x47 && again[56] == 0 && again[57] == 7);
-                Ok(())
+        let Ok(found) = read(&bytes) else {
+            return Err(Fail::new("the sample is declined"));
+        };
+        assert_eq!(rt;
+            found.seats,
+            PerSide {
+                first: 0,
+                second: 1,
             }
-            Err(_) => Err(Fail::new("the sample is declined")),
-        }
+        );
+        assert_eq!(rt; standing_number(found.verdict), 12);
+        assert_eq!(rt; found.limit, 10);
+        assert_eq!(rt; found.turns.count(), 2);
+        assert_eq!(rt;
+            found.turns.turn(1),
+            Some(Turn {
+                code: 33,
+                reading: 7,
+            })
+        );
+        assert_eq!(rt; found.turns.turn(2), None);
+        assert_eq!(rt;
+            found.lefts,
+            PerSide {
+                first: 995,
+                second: 993,
+            }
+        );
+        let mut again = [7u8; 60];
+        assert_eq!(rt; found.write(&mut again), Ok(57));
+        assert!(rt; again[0] == 0x47 && again[56] == 0 && again[57] == 7);
+        Ok(())
     }
 
     #[test]
@@ -187,10 +183,10 @@ mod tests {
     #[test]
     fn each_verdict(rt: HostRuntime) {
         for number in 0..=255u8 {
-            let listed = match number {
-                0 | 11 | 12 | 13 | 21 | 22 | 23 | 31 | 32 | 41 | 42 | 53 | 61 | 62 => true,
-                _ => false,
-            };
+            let listed = matches!(
+                number,
+                0 | 11 | 12 | 13 | 21 | 22 | 23 | 31 | 32 | 41 | 42 | 53 | 61 | 62
+            );
             assert_eq!(rt; damaged(6, number).is_none(), listed);
         }
         assert_eq!(rt; Verdict::Flag(Outcome::Drawn).number(), 23);

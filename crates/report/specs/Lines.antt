@@ -1,7 +1,6 @@
 -- The line that is printed of some bytes.
 --   accepted_line   seats, verdict, number of turns, lefts, one blank between
---   refused_line    `refused`, the fault's number and its place
---   line_of         one or the other, as the bytes are a record or not
+--   line_of         that, or the line of the first fault where the bytes are no record
 --   Texts           a text was made, or memory failed
 --   sample_content  the content of the sample record, and sample_end its last bytes
 use Rattle.std.specs.Prelude.{◌≡◌, ℕ, List, [], ◌∷◌, ◌++◌, length, IfOk, Some, None, string_bytes, codes, decimal, Option, Result, String}
@@ -13,14 +12,12 @@ use Rattle.verdict.specs.declared.Verdict.TheVariants.{Rules}
 use Rattle.verdict.specs.Verdicts.{standing_number}
 use Rattle.format.specs.Layout.{Content}
 use Rattle.format.specs.Requirements.{Found, first_fault, requirements, content_of}
+use Rattle.record.specs.Faults.{refused_line}
 
 abbrev pub accepted_line : Content → List ℕ
 accepted_line c =
     decimal c.first ++ (codes " " ++ (decimal c.second ++ (codes " " ++ (decimal (standing_number c.standing) ++ (codes " "
     ++ (decimal (length c.turns) ++ (codes " " ++ (decimal c.first_left ++ (codes " " ++ decimal c.second_left)))))))))
-
-abbrev pub refused_line : Found → List ℕ
-refused_line f = codes "refused " ++ (decimal f.number ++ (codes " " ++ decimal f.place))
 
 abbrev pub line_at : Option Found → Content → List ℕ
 line_at None c = accepted_line c

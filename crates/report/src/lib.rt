@@ -4,11 +4,9 @@
 ghost use Rattle.std.specs.Prelude.{◌≡◌, ℕ, ◌≤◌, List, ◌++◌, length, drop};
 ghost use Rattle.format.specs.Layout.{WellFormed, encode};
 ghost use Rattle.record.specs.Contents.{content};
-ghost use Rattle.record.specs.Faults.{found_of};
-ghost use Rattle.report.specs.Lines.{accepted_line, refused_line, line_of, Texts, sample_content, sample_end};
+ghost use Rattle.report.specs.Lines.{accepted_line, line_of, Texts, sample_content, sample_end};
 
 use record::content::{Record, Turns};
-use record::fault::Fault;
 use record::reader::read;
 use std::alloc::{AllocError, Global};
 use verdict::standing_number;
@@ -16,21 +14,15 @@ use verdict::standing_number;
 fn accepted<T: Turns>(heap: Global, record: &Record<'_, T>) -> Result<String, AllocError>
     ensures { Texts result (accepted_line (content T.Turns.turns «record».now)) }
 {
-    let first = record.seats.first;
-    let second = record.seats.second;
-    let verdict = standing_number(record.verdict);
-    let turns = record.turns.count();
-    let left = record.lefts.first;
-    let right = record.lefts.second;
-    format!(in heap; "{first} {second} {verdict} {turns} {left} {right}")
-}
-
-fn refused(heap: Global, fault: Fault) -> Result<String, AllocError>
-    ensures { Texts result (refused_line (found_of fault)) }
-{
-    let number = fault.number();
-    let place = fault.place();
-    format!(in heap; "refused {number} {place}")
+    format!(in heap;
+        "{} {} {} {} {} {}",
+        record.seats.first,
+        record.seats.second,
+        standing_number(record.verdict),
+        record.turns.count(),
+        record.lefts.first,
+        record.lefts.second
+    )
 }
 
 // One line: seats, verdict, number of turns and lefts, or the number and place of the first fault.
@@ -41,7 +33,7 @@ pub fn line(heap: Global, bytes: &[u8]) -> Result<String, AllocError>
 {
     match read(bytes) {
         Ok(record) => accepted(heap, &record),
-        Err(fault) => refused(heap, fault),
+        Err(fault) => fault.to_string(heap),
     }
 }
 

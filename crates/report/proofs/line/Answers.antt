@@ -2,9 +2,9 @@ use Rattle.std.proofs.Common.{◌≡◌, ℕ, ◌≤◌, List, ◌++◌, length,
 use Rattle.format.specs.Requirements.{Found, content_of}
 use Rattle.format.proofs.Enough.{decided, long_faulty}
 use Rattle.record.specs.Contents.{content}
-use Rattle.record.specs.Faults.{found_of}
+use Rattle.record.specs.Faults.{found_of, refused_line}
 use Rattle.record.specs.Reading.{lent_turns}
-use Rattle.report.specs.Lines.{accepted_line, refused_line, line_at, line_of, Texts}
+use Rattle.report.specs.Lines.{accepted_line, line_at, line_of, Texts}
 use Rattle.report.proofs.line.Goals as goal
 
 same_line : (b more : List ℕ) → 1645 ≤ length b → line_of (b ++ more) ≡ line_of b
@@ -24,4 +24,4 @@ pub returns-in-Err : goal.returns-in-Err
 returns-in-Err c =
     let b = c.args.bytes.now in
     let e : refused_line (found_of c.in-Err.fault) ≡ line_of b = sym (ap (λ (o : Option Found). line_at o (content_of b)) c.in-Err.ensures.answer) in
-    record { text = subst (Texts c.refused.result) e c.refused.ensures; decided = same_line }
+    record { text = subst (Texts c.to_string.result) e c.to_string.ensures.ok; decided = same_line }
