@@ -1,59 +1,12 @@
 // Connect Four on whole games: the results were worked out by a program made apart.
 #![tactic(auto)]
 
-use connect_four::ConnectFour;
-use rules::{Rules, Status};
-use side::Side;
-
-// A code of a list, by its place, that was illegal.
-#[derive(Clone, Copy, Debug)]
-pub struct Illegal(pub usize);
-
-// The position after the codes of a text, one digit each.
-pub fn played(codes: &[u8]) -> Result<ConnectFour, Illegal> {
-    let mut game = ConnectFour::new();
-    for (i, digit) in codes.iter().enumerate() {
-        if !game.make(digit.wrapping_sub(b'0') as u16) {
-            return Err(Illegal(i));
-        }
-    }
-    Ok(game)
-}
-
-// How many codes are legal, of all that there are.
-pub fn legal_codes(game: &ConnectFour) -> u32 {
-    let mut count: u32 = 0;
-    for code in 0..=65535u16 {
-        let mut copy = game.copy();
-        if copy.make(code) {
-            count = count.wrapping_add(1);
-        }
-    }
-    count
-}
-
-// Plays games that are written one after another, a blank after each, and looks at the status at each blank.
-// The place where a code is illegal or the status is another one; none where all is as it should be.
-pub fn first_not(games: &[u8], status: Status) -> Option<usize> {
-    let mut game = ConnectFour::new();
-    for (i, digit) in games.iter().enumerate() {
-        if *digit != b' ' {
-            if !game.make(digit.wrapping_sub(b'0') as u16) {
-                return Some(i);
-            }
-        } else if game.status() == status {
-            game.reset();
-        } else {
-            return Some(i);
-        }
-    }
-    None
-}
-
 #[cfg(test)]
 mod tests {
-    use super::*;
     use board::window_count;
+    use connect_four::ConnectFour;
+    use rules::{Rules, Status};
+    use side::Side;
     use std::test::Fail;
 
     const FIRST: Status = Status::Won(Side::First);
@@ -63,6 +16,50 @@ mod tests {
     const OPEN: Status = Status::Open;
 
     const DRAWN: Status = Status::Drawn;
+
+    // A code of a list, by its place, that was illegal.
+    #[derive(Clone, Copy, Debug)]
+    struct Illegal(usize);
+
+    fn code(digit: u8) -> u16 {
+        digit.wrapping_sub(b'0').into()
+    }
+
+    // The position after the codes of a text, one digit each.
+    fn played(codes: &[u8]) -> Result<ConnectFour, Illegal> {
+        let mut game = ConnectFour::new();
+        for (i, digit) in codes.iter().enumerate() {
+            if !game.make(code(*digit)) {
+                return Err(Illegal(i));
+            }
+        }
+        Ok(game)
+    }
+
+    // How many codes are legal, of all that there are.
+    fn legal_codes(game: &ConnectFour) -> usize {
+        (0..=65535u16)
+            .filter(|code| game.copy().make(*code))
+            .count()
+    }
+
+    // Plays games that are written one after another, a blank after each, and looks at the status at each blank.
+    // The place where a code is illegal or the status is another one; none where all is as it should be.
+    fn first_not(games: &[u8], status: Status) -> Option<usize> {
+        let mut game = ConnectFour::new();
+        for (i, digit) in games.iter().enumerate() {
+            if *digit != b' ' {
+                if !game.make(code(*digit)) {
+                    return Some(i);
+                }
+            } else if game.status() == status {
+                game.reset();
+            } else {
+                return Some(i);
+            }
+        }
+        None
+    }
 
     #[test]
     fn begins_open(rt: HostRuntime) {
@@ -105,9 +102,7 @@ mod tests {
     #[test]
     fn codes_past_the_columns_are_illegal(rt: HostRuntime) -> Result<(), Fail> {
         let mut game = played(b"33")?;
-        for code in 7..=65535u16 {
-            assert!(rt; !game.make(code));
-        }
+        assert!(rt; !(7..=65535u16).any(|code| game.make(code)));
         assert_eq!(rt; game.status(), OPEN);
         assert_eq!(rt; game.stones(Side::First), 1);
         assert_eq!(rt; game.stones(Side::Second), 1);
@@ -295,8 +290,8 @@ mod tests {
 
     #[test]
     fn constants(rt: HostRuntime) {
-        assert_eq!(rt; <ConnectFour as Rules>::code_count(), 7);
-        assert_eq!(rt; <ConnectFour as Rules>::longest_game(), 42);
+        assert_eq!(rt; <ConnectFour as Rules>::CODES, 7);
+        assert_eq!(rt; <ConnectFour as Rules>::LONGEST, 42);
         assert_eq!(rt; window_count(7, 6, 4), 69);
         assert_eq!(rt; window_count(15, 15, 5), 572);
         assert_eq!(rt; window_count(3, 3, 4), 0);

@@ -1,77 +1,29 @@
 -- Single bits of words, and the number of ones as a sum of bits.
-use Rattle.std.proofs.Common.{◌≡◌, ℕ, zero, suc, ◌+◌, ◌*◌, ◌/◌, ◌%◌, ◌^◌, ◌<◌, ◌≤◌, min, max, true, false, ◌⊎◌, sym, refl, ap, ◌∙◌, subst, ap₂, inl, inr, lt_of_lt_of_le, mod-lt, mod-eq_of_lt, zero-lt-suc, one-mul, div-one, add-one, one-add, arith, pow_mono, shr-shr, shr_lt}
-use native.Mathlib.Nat.{zero-div, div-eq_of_lt, mul-add-mod_self_right}
+use Rattle.std.proofs.Common.{◌≡◌, ℕ, zero, suc, ◌+◌, ◌/◌, ◌%◌, ◌^◌, ◌<◌, ◌≤◌, true, false, ◌⊎◌, sym, refl, ap, ◌∙◌, subst, ap₂, inl, inr, add-one, arith, shr-shr, shr_lt}
 use lib.Arith.{bin_ind}
-use lib.Bits.{bit_and, bit_or, bit_xor, and_step, or_step, and_shr, or_shr, xor_shr, xor_mod, shifted_half, shifted_even, and_mask}
+use lib.Bits.{bit_or, bit_xor, xor_shr, xor_mod}
 use lib.Count.{ones, ones_step, ones-le}
 use Rattle.std.proofs.lemmas.Bool.{eq-eqb, ne_eqb, eqb-true, eqb-false, cases_eq, cases_lt}
+use Rattle.std.proofs.lemmas.Nat.Bits.{bit_at_lowest, bit_at-suc, bit_at-zero, bit_at_or, bit_at-pow_same, bit_at-pow_other, bit_at-lt}
 use Rattle.connect_four_theory.specs.Stones.{bit, stone}
-
-pub bit_lt : (w k : ℕ) → bit w k < 2
-bit_lt w k = mod-lt (w / 2 ^ k) (zero-lt-suc 1)
-
-pub bit_first : (w : ℕ) → bit w 0 ≡ w % 2
-bit_first w = ap (λ (x : ℕ). x % 2) (div-one w)
-
-pub bit_next : (w k : ℕ) → bit w (suc k) ≡ bit (w / 2) k
-bit_next w k = ap (λ (x : ℕ). w / 2 ^ x % 2) (sym (one-add k)) ∙ sym (ap (λ (x : ℕ). x % 2) (shr-shr w 1 k))
 
 pub bit_shr : (w s k : ℕ) → bit (w / 2 ^ s) k ≡ bit w (s + k)
 bit_shr w s k = ap (λ (x : ℕ). x % 2) (shr-shr w s k)
 
-low : (q r : ℕ) → r < 2 → (q * 2 + r) % 2 ≡ r
-low q r h = mul-add-mod_self_right q 2 r ∙ mod-eq_of_lt h
-
-pub bit_of_and : (k a b : ℕ) → bit (bit_and a b) k ≡ min (bit a k) (bit b k)
-bit_of_and zero a b =
-    let x = mod-lt a (zero-lt-suc 1) in
-    let y = mod-lt b (zero-lt-suc 1) in
-    bit_first (bit_and a b) ∙ ap (λ (n : ℕ). n % 2) (and_step a b) ∙ low (bit_and (a / 2) (b / 2)) (min (a % 2) (b % 2)) (omega arith)
-    ∙ sym (ap₂ min (bit_first a) (bit_first b))
-bit_of_and (suc k) a b =
-    bit_next (bit_and a b) k ∙ ap (λ (n : ℕ). bit n k) (and_shr a b 1) ∙ bit_of_and k (a / 2) (b / 2) ∙ sym (ap₂ min (bit_next a k) (bit_next b k))
-
-pub bit_of_or : (k a b : ℕ) → bit (bit_or a b) k ≡ max (bit a k) (bit b k)
-bit_of_or zero a b =
-    let x = mod-lt a (zero-lt-suc 1) in
-    let y = mod-lt b (zero-lt-suc 1) in
-    bit_first (bit_or a b) ∙ ap (λ (n : ℕ). n % 2) (or_step a b) ∙ low (bit_or (a / 2) (b / 2)) (max (a % 2) (b % 2)) (omega arith)
-    ∙ sym (ap₂ max (bit_first a) (bit_first b))
-bit_of_or (suc k) a b =
-    bit_next (bit_or a b) k ∙ ap (λ (n : ℕ). bit n k) (or_shr a b 1) ∙ bit_of_or k (a / 2) (b / 2) ∙ sym (ap₂ max (bit_next a k) (bit_next b k))
-
--- the bits of 2 ^ k
-pub stone_zero : (k : ℕ) → bit 0 k ≡ 0
-stone_zero k = ap (λ (n : ℕ). n % 2) (zero-div (2 ^ k))
-
-pub bit_pow_same : (k : ℕ) → bit (2 ^ k) k ≡ 1
-bit_pow_same zero = refl
-bit_pow_same (suc k) =
-    bit_next (2 ^ suc k) k ∙ ap (λ (n : ℕ). bit n k) (ap (λ (n : ℕ). n / 2) (sym (one-mul (2 ^ suc k))) ∙ shifted_half 1 k ∙ one-mul (2 ^ k)) ∙ bit_pow_same k
-
-pub bit_pow_other : (k j : ℕ) → (j ≡ k → ⊥) → bit (2 ^ k) j ≡ 0
-bit_pow_other zero zero h = absurd (h refl)
-bit_pow_other zero (suc j) h = bit_next 1 j ∙ stone_zero j
-bit_pow_other (suc k) zero h = bit_first (2 ^ suc k) ∙ ap (λ (n : ℕ). n % 2) (sym (one-mul (2 ^ suc k))) ∙ shifted_even 1 k
-bit_pow_other (suc k) (suc j) h =
-    bit_next (2 ^ suc k) j ∙ ap (λ (n : ℕ). bit n j) (ap (λ (n : ℕ). n / 2) (sym (one-mul (2 ^ suc k))) ∙ shifted_half 1 k ∙ one-mul (2 ^ k))
-    ∙ bit_pow_other k j (λ e. h (ap suc e))
-
--- no bit stands past a word's length
-pub bit_past : (w n k : ℕ) → w < 2 ^ n → n ≤ k → bit w k ≡ 0
-bit_past w n k l h = ap (λ (x : ℕ). x % 2) (div-eq_of_lt (lt_of_lt_of_le l (pow_mono h)))
+pub bit_of_xor : (k a b : ℕ) → bit (bit_xor a b) k ≡ bit_xor (bit a k) (bit b k)
+bit_of_xor k a b = ap (λ (n : ℕ). n % 2) (xor_shr a b k) ∙ xor_mod (a / 2 ^ k) (b / 2 ^ k) 1
 
 pub some_bit : (w : ℕ) → 0 < w → (k : ℕ) × (bit w k ≡ 1)
 some_bit w =
     bin_ind (λ (n : ℕ). 0 < n → (k : ℕ) × (bit n k ≡ 1)) (λ h. absurd (omega arith))
     (λ n ih h.
     elim (cases_eq (n % 2) 1) [
-      | inl e ↦ (0, bit_first n ∙ e)
-      | inr e ↦ let r = ih (omega arith) in (suc r.0, bit_next n r.0 ∙ r.1)
+      | inl e ↦ (0, bit_at_lowest n ∙ e)
+      | inr e ↦ let r = ih (omega arith) in (suc r.0, bit_at-suc n r.0 ∙ r.1)
     ]) w
 
 pub not_zero : (w k : ℕ) → bit w k ≡ 1 → 0 < w
-not_zero zero k e = let z = stone_zero k in absurd (omega arith)
+not_zero zero k e = let z = bit_at-zero k in absurd (omega arith)
 not_zero (suc w) k e = omega arith
 
 -- ---- sums over the places below n
@@ -130,17 +82,17 @@ ones_total zero w l = let z = ones-le 0 w l in omega arith
 ones_total (suc n) w l =
     let i = ones_total n (w / 2) (shr_lt n 1 (subst (λ (x : ℕ). w < 2 ^ x) (sym (add-one n)) l)) in
     let s = ones_step w in
-    let b = bit_first w in
-    let c = total_cong n (λ j. bit w (suc j)) (bit (w / 2)) (λ j. bit_next w j) in
+    let b = bit_at_lowest w in
+    let c = total_cong n (λ j. bit w (suc j)) (bit (w / 2)) (λ j. bit_at-suc w j) in
     omega arith
 
 -- ---- a stone more
 
 pub bit_set_same : (w k : ℕ) → bit (bit_or w (2 ^ k)) k ≡ 1
-bit_set_same w k = let a = bit_of_or k w (2 ^ k) in let b = bit_pow_same k in let c = bit_lt w k in omega arith
+bit_set_same w k = let a = bit_at_or w (2 ^ k) k in let b = bit_at-pow_same k in let c = bit_at-lt w k in omega arith
 
 pub bit_set_other : (w k j : ℕ) → (j ≡ k → ⊥) → bit (bit_or w (2 ^ k)) j ≡ bit w j
-bit_set_other w k j h = let a = bit_of_or j w (2 ^ k) in let b = bit_pow_other k j h in omega arith
+bit_set_other w k j h = let a = bit_at_or w (2 ^ k) j in let b = bit_at-pow_other k j h in omega arith
 
 pub ones_set : (n w k : ℕ) → w < 2 ^ n → bit_or w (2 ^ k) < 2 ^ n → k < n → bit w k ≡ 0 → ones (bit_or w (2 ^ k)) ≡ ones w + 1
 ones_set n w k l m h z =
@@ -150,11 +102,8 @@ ones_set n w k l m h z =
     let t = total_more n (bit w) (bit (bit_or w (2 ^ k))) k h (omega arith) (λ j d. bit_set_other w k j d) in
     omega arith
 
-pub bit_of_xor : (k a b : ℕ) → bit (bit_xor a b) k ≡ bit_xor (bit a k) (bit b k)
-bit_of_xor k a b = ap (λ (n : ℕ). n % 2) (xor_shr a b k) ∙ xor_mod (a / 2 ^ k) (b / 2 ^ k) 1
-
 pub bit_cases : (w k : ℕ) → (bit w k ≡ 1) ⊎ (bit w k ≡ 0)
-bit_cases w k = let l = bit_lt w k in elim (cases_eq (bit w k) 1) [ inl e ↦ inl e | inr e ↦ inr (omega arith) ]
+bit_cases w k = let l = bit_at-lt w k in elim (cases_eq (bit w k) 1) [ inl e ↦ inl e | inr e ↦ inr (omega arith) ]
 
 pub stone_yes : (w k : ℕ) → bit w k ≡ 1 → stone w k ≡ true
 stone_yes w k e = eq-eqb (bit w k) 1 e
@@ -166,8 +115,4 @@ pub yes_stone : (w k : ℕ) → stone w k ≡ true → bit w k ≡ 1
 yes_stone w k e = eqb-true (bit w k) 1 e
 
 pub no_stone : (w k : ℕ) → stone w k ≡ false → bit w k ≡ 0
-no_stone w k e = let l = bit_lt w k in let d = eqb-false (bit w k) 1 e in omega arith
-
--- a bit as a program reads it
-pub word_bit : (w k : ℕ) → bit_and (w / 2 ^ k) 1 ≡ bit w k
-word_bit w k = and_mask (w / 2 ^ k) 1
+no_stone w k e = let l = bit_at-lt w k in let d = eqb-false (bit w k) 1 e in omega arith

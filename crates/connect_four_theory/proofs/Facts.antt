@@ -6,19 +6,22 @@ use lib.Count.{ones, ones_in}
 use Rattle.std.proofs.lemmas.Bool.{and_parts, and_from, lt-ltb, eqb-true, eq-eqb, cases_Bool, cases_lt, both_ways}
 use Rattle.side.specs.declared.Side.{Side}
 use Rattle.side.specs.declared.Side.TheVariants.{First, Second}
-use Rattle.side.specs.TwoSides.{opponent, pick}
+use Rattle.side.specs.declared.PerSide.{PerSide}
+use Rattle.side.specs.TwoSides.{opponent, pick, of_side, with_side}
 use Rattle.rules.specs.declared.Status.{Status}
-use Rattle.rules.specs.Plans.{is_open}
+use Rattle.rules.specs.Plans.{NoWin, is_open, made}
 use Rattle.rules.specs.declared.Status.TheVariants.{Open, Won, Drawn}
-use Rattle.rules.specs.Machine.{after, all_legal, OnWay}
-use Rattle.rules.proofs.Sound.{next_on_way}
-use Rattle.rules.proofs.Dead.{no_win_after}
-use Rattle.board.specs.Windows.{windows, in_line}
+use Rattle.rules.specs.Machine.{after, all_legal, plan_of, OnWay}
+use Rattle.rules.proofs.Sound.{next_on_way, point_of}
+use Rattle.rules.proofs.Dead.{no_win, no_win_after}
+use Rattle.std.specs.Prelude.{◌&&◌, if◌then◌else◌, nat_lt}
+use Rattle.std.specs.Option.{option_map}
+use Rattle.board.specs.Windows.{Cell, cell, windows, in_line}
 use Rattle.board.proofs.Straight.{in_line_right}
 use Rattle.connect_four_theory.specs.Stones.{has_stone, placed, four_in_line, OnBoard}
-use Rattle.connect_four_theory.specs.Game.{Position, at, start, held, landing, status_of, status_since, fits, falls_to, target, first_after, second_after, four, connect_four, Settled}
+use Rattle.connect_four_theory.specs.Game.{Position, position, start, held, landing, lowest_free, status_of, status_since, fits, falls_to, target, first_after, second_after, chance_of, four, connect_four, Settled}
 use Rattle.connect_four_theory.specs.Facts.{word_of, HasLine, Full, PlacedRight, LandingRight, StonesRight, SettledRight, Made, MadeRight, FullRight, Judged, StatusRight, LegalRight, ChanceRight, ColumnSample}
-use Rattle.connect_four_theory.proofs.Falls.{landing_in, landing_held, landing_free, landing_le, placed_here, placed_other, at_most, free_cell, cell_free, ones_are_stones}
+use Rattle.connect_four_theory.proofs.Falls.{lowest, landing_in, landing_held, landing_free, landing_le, placed_here, placed_other, at_most, free_cell, cell_free, ones_are_stones}
 use Rattle.connect_four_theory.proofs.Moves.{Fit, fit, settled_first, settled_second, stepped, open_clear, won_test, drawn_tests, settled_start, open_start, no_ones, laws}
 
 pub placed_right : PlacedRight
@@ -92,23 +95,16 @@ has_line : (w : ℕ) → Decides (four_in_line (has_stone w)) (HasLine w)
 has_line w = in_line_right 7 6 4 (lit≤ tt) (has_stone w)
 
 no_line : (w : ℕ) → (HasLine w → ⊥) → four_in_line (has_stone w) ≡ false
-no_line w none = elim (cases_Bool (four_in_line (has_stone w))) [ inl y ↦ absurd (none ((has_line w).0 y)) | inr n ↦ n ]
+no_line w none = grind (arith, none, (has_line w).0)
 
 first_won : (f s : ℕ) → four_in_line (has_stone f) ≡ true → status_of f s ≡ Won First
-first_won f s e = ap (λ (b : Bool). cond b (Won First) (cond (four_in_line (has_stone s)) (Won Second) (cond (eqb (ones f + ones s) 42) Drawn Open))) e
-
-not_first : (f s : ℕ) → four_in_line (has_stone f) ≡ false → status_of f s ≡ cond (four_in_line (has_stone s)) (Won Second) (cond (eqb (ones f + ones s) 42) Drawn Open)
-not_first f s e = ap (λ (b : Bool). cond b (Won First) (cond (four_in_line (has_stone s)) (Won Second) (cond (eqb (ones f + ones s) 42) Drawn Open))) e
+first_won f s e = simp e
 
 second_won : (f s : ℕ) → Single f s → four_in_line (has_stone s) ≡ true → status_of f s ≡ Won Second
-second_won f s one e =
-    elim (cases_Bool (four_in_line (has_stone f))) [
-      | inl y ↦ absurd (both_ways _ (one y) e)
-      | inr n ↦ not_first f s n ∙ ap (λ (b : Bool). cond b (Won Second) (cond (eqb (ones f + ones s) 42) Drawn Open)) e
-    ]
+second_won f s one e = grind (arith, one, e)
 
 neither : (f s : ℕ) → four_in_line (has_stone f) ≡ false → four_in_line (has_stone s) ≡ false → status_of f s ≡ cond (eqb (ones f + ones s) 42) Drawn Open
-neither f s x y = not_first f s x ∙ ap (λ (b : Bool). cond b (Won Second) (cond (eqb (ones f + ones s) 42) Drawn Open)) y
+neither f s x y = simp (x, y)
 
 won_line : (p : Position) (side : Side) → status_of p.first p.second ≡ Won side → four_in_line (has_stone (word_of side p)) ≡ true
 won_line p First e = won_test (four_in_line (has_stone p.first)) (four_in_line (has_stone p.second)) (eqb (ones p.first + ones p.second) 42) First e
@@ -168,66 +164,70 @@ column_wins = (refl, refl)
 -- ---- the status after a code that fits: the other side, which had no line, has none
 
 pub since_first : (f s g : ℕ) → status_of f s ≡ Open → status_of g s ≡ status_since First g s
-since_first f s g o =
-    ap (λ (b : Bool). cond (four_in_line (has_stone g)) (Won First) (cond b (Won Second) (cond (eqb (ones g + ones s) 42) Drawn Open))) (open_clear f s o).1
+since_first f s g o = let t = (open_clear f s o).1 in simp t
 
 pub since_second : (f s g : ℕ) → status_of f s ≡ Open → status_of f g ≡ status_since Second g f
-since_second f s g o =
-    not_first f g (open_clear f s o).0
-    ∙ ap (λ (n : ℕ). cond (four_in_line (has_stone g)) (Won Second) (cond (eqb n 42) Drawn Open)) (add_comm (ones f) (ones g))
+since_second f s g o = let t = (open_clear f s o).0 in let c = add_comm (ones f) (ones g) in simp (t, c)
 
--- ---- what a legal code of a side leaves
+-- ---- what a legal code leaves
 
-pub record Laid (f s : ℕ) (turn : Side) (status : Status) : Type 0 where
-  pub settled : Settled f s
-  pub judged : status ≡ status_of f s
-  pub way : OnWay four start (at f s turn)
+pub record Laid (p : PerSide ℕ) (turn : Side) (status : Status) : Type 0 where
+  pub settled : Settled p.first p.second
+  pub judged : status ≡ status_of p.first p.second
+  pub way : OnWay four start (position p turn)
 
-module _ (f s c : ℕ) (ok : Settled f s) (legal : fits f s c ≡ true) where
-  pub laid_first : (turn : Side) → turn ≡ First → OnWay four start (at f s turn) → (g : ℕ) → g ≡ placed f (target f s c)
-      → (status : Status) → status ≡ status_since First g s → Laid g s Second status
-  laid_first turn t way g e status d =
-      let h = fit f s c legal in
-      let from : OnWay four start (at f s First) = subst (λ (u : Side). OnWay four start (at f s u)) t way in
-      record {
-        settled = subst (λ (w : ℕ). Settled w s) (sym e) (settled_first f s c ok h);
-        judged = d ∙ sym (since_first f s g h.opens);
-        way = subst (λ (w : ℕ). OnWay four start (at w s Second)) (sym e) (next_on_way four start (at f s First) c from legal);
-      }
+pub laid : (p : PerSide ℕ) (turn : Side) (c : ℕ) → Settled p.first p.second → fits p.first p.second c ≡ true → OnWay four start (position p turn)
+    → let own = placed (of_side turn p) (target p.first p.second c) in
+    Laid (with_side turn own p) (opponent turn) (status_since turn own (of_side (opponent turn) p))
+laid p First c ok legal way =
+    let h = fit p.first p.second c legal in
+    record {
+      settled = settled_first p.first p.second c ok h;
+      judged = sym (since_first p.first p.second (placed p.first (target p.first p.second c)) h.opens);
+      way = next_on_way four start (position p First) c way legal;
+    }
+laid p Second c ok legal way =
+    let h = fit p.first p.second c legal in
+    record {
+      settled = settled_second p.first p.second c ok h;
+      judged = sym (since_second p.first p.second (placed p.second (target p.first p.second c)) h.opens);
+      way = next_on_way four start (position p Second) c way legal;
+    }
 
-  pub laid_second : (turn : Side) → turn ≡ Second → OnWay four start (at f s turn) → (g : ℕ) → g ≡ placed s (target f s c)
-      → (status : Status) → status ≡ status_since Second g f → Laid f g First status
-  laid_second turn t way g e status d =
-      let h = fit f s c legal in
-      let from : OnWay four start (at f s Second) = subst (λ (u : Side). OnWay four start (at f s u)) t way in
-      record {
-        settled = subst (λ (w : ℕ). Settled f w) (sym e) (settled_second f s c ok h);
-        judged = d ∙ sym (since_second f s g h.opens);
-        way = subst (λ (w : ℕ). OnWay four start (at f w First)) (sym e) (next_on_way four start (at f s Second) c from legal);
-      }
+pub laid_line : (p : PerSide ℕ) (turn : Side) (c : ℕ) → fits p.first p.second c ≡ true
+    → plan_of four (position (with_side turn (placed (of_side turn p) (target p.first p.second c)) p) (opponent turn)) ≡ made (plan_of four (position p turn)) c
+laid_line p First c legal = simp legal
+laid_line p Second c legal = simp legal
 
--- ---- the row that a stone falls to
+-- ---- the cell that a stone falls to
 
-pub falls_none : (f s c : ℕ) → None ≡ falls_to f s c → fits f s c ≡ false
-falls_none f s c e =
+open_falls : (a b : Bool) (c r : ℕ) → a ≡ true → (if b then Some (cell c r) else None) ≡ option_map (cell c) (cond (a && b) (Some r) None)
+open_falls true true c r e = refl
+open_falls true false c r e = refl
+open_falls false b c r e = absurd (both_ways false refl e)
+
+pub open_target : (f s c : ℕ) → status_of f s ≡ Open → lowest_free (held f s) c ≡ option_map (cell c) (falls_to f s c)
+open_target f s c o = lowest (held f s) c ∙ open_falls (is_open (status_of f s)) (nat_lt c 7 && nat_lt (landing (held f s) c) 6) c (landing (held f s) c) (ap is_open o)
+
+pub some_target : (f s c : ℕ) (d : Cell) → Some d ≡ option_map (cell c) (falls_to f s c) → (fits f s c ≡ true) × (d ≡ target f s c)
+some_target f s c d e =
     elim (cases_Bool (fits f s c)) [
-      | inl y ↦ let d = e ∙ ap (λ (b : Bool). cond b (Some (landing (held f s) c)) None) y in let bad : ◌≡◌ {A = ℕ} 0 1 = cc in absurd (omega arith)
-      | inr n ↦ n
-    ]
-
-pub falls_some : (f s c r : ℕ) → Some r ≡ falls_to f s c → (fits f s c ≡ true) × (r ≡ landing (held f s) c)
-falls_some f s c r e =
-    elim (cases_Bool (fits f s c)) [
-      | inl y ↦ let d = e ∙ ap (λ (b : Bool). cond b (Some (landing (held f s) c)) None) y in (y, cc)
-      | inr n ↦ let d = e ∙ ap (λ (b : Bool). cond b (Some (landing (held f s) c)) None) n in let bad : ◌≡◌ {A = ℕ} 0 1 = cc in absurd (omega arith)
+      | inl y ↦ (y, grind (arith, y, e))
+      | inr n ↦ absurd (grind (arith, n, e))
     ]
 
 -- ---- the side that is meant
 
-pub on_pick : (side : Side) (f s : ℕ) → OnBoard f → OnBoard s → OnBoard (pick side f s)
-on_pick First f s a b = a
-on_pick Second f s a b = b
+pub on_side : (side : Side) (p : PerSide ℕ) → Settled p.first p.second → OnBoard (of_side side p)
+on_side First p ok = ok.first_on
+on_side Second p ok = ok.second_on
 
-pub pick_other : (side : Side) (f s : ℕ) → pick (opponent side) f s ≡ pick side s f
-pick_other First f s = refl
-pick_other Second f s = refl
+pub other_words : (side : Side) (p : PerSide ℕ) → of_side (opponent side) p ≡ pick side p.second p.first
+other_words First p = refl
+other_words Second p = refl
+
+-- ---- a side without a chance
+
+pub no_chance : (p : PerSide ℕ) (turn : Side) → OnWay four start (position p turn) → (side : Side)
+    → chance_of p.first p.second side ≡ false → NoWin (plan_of four (position p turn)) side
+no_chance p turn way side e = no_win 7 42 connect_four (plan_of four (position p turn)) laws (point_of four start (position p turn) way) side e

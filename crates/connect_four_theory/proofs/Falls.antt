@@ -1,15 +1,16 @@
 -- The lowest free cell of a column, a word with one stone more, and how many stones two words have.
-use Rattle.std.proofs.Common.{◌≡◌, ℕ, zero, suc, ◌+◌, ◌-◌, ◌*◌, ◌/◌, ◌%◌, ◌^◌, ◌<◌, ◌≤◌, Bool, true, false, cond, ◌||◌, eqb, ◌⊎◌, List, [], map, count_by, sym, refl, ap, ◌∙◌, subst, inl, inr, add-zero, arith}
+use Rattle.std.proofs.Common.{◌≡◌, ℕ, zero, suc, ◌+◌, ◌*◌, ◌/◌, ◌%◌, ◌^◌, ◌<◌, ◌≤◌, Bool, true, false, cond, ◌&&◌, ◌||◌, Some, None, eqb, ◌⊎◌, List, [], map, count_by, sym, refl, ap, ◌∙◌, subst, inl, inr, add-zero, arith}
 use lib.Bits.{bit_or}
 use lib.Count.{ones}
+use Rattle.std.specs.Prelude.{if◌then◌else◌, nat_lt}
 use Rattle.std.specs.List.{flat_map}
 use Rattle.std.proofs.lemmas.List.{flat_map_more}
 use Rattle.std.proofs.lemmas.List.Sums.{sum_by-append}
-use Rattle.std.proofs.lemmas.Bool.{or_parts, or_from, cases_Bool, cases_lt, cases_eq, both_ways}
+use Rattle.std.proofs.lemmas.Bool.{or_parts, or_from, cases_Bool, cases_lt}
 use Rattle.board.specs.Windows.{Cell, cell, below, grid}
 use Rattle.board.specs.Straight.{Inside, inside}
 use Rattle.connect_four_theory.specs.Stones.{bit, stone, place, cell_at, has_stone, placed, board, OnBoard}
-use Rattle.connect_four_theory.specs.Game.{held, rises, landing, Apart, Settled}
+use Rattle.connect_four_theory.specs.Game.{held, rises, landing, lowest_free, Apart, Settled}
 use Rattle.connect_four_theory.proofs.Bits.{bit_shr, bit_cases, some_bit, total, total_add, total_le, total_lt, total_find, ones_total, bit_set_same, bit_set_other, ones_set, stone_yes, stone_no, no_stone}
 use Rattle.connect_four_theory.proofs.Lines.{at_place, inside_is, is_inside, place_at}
 
@@ -18,40 +19,15 @@ use Rattle.connect_four_theory.proofs.Lines.{at_place, inside_is, is_inside, pla
 module _ (p : Cell → Bool) (c : ℕ) where
   rises_held : (n r j : ℕ) → r ≤ j → j < rises p c n r → p (cell c j) ≡ true
   rises_held zero r j a b = absurd (omega arith)
-  rises_held (suc n) r j a b =
-      elim (cases_Bool (p (cell c r))) [
-        | inl y ↦
-            let e : rises p c (suc n) r ≡ rises p c n (suc r) = ap (λ (b : Bool). cond b (rises p c n (suc r)) r) y in
-            elim (cases_eq r j) [
-              | inl d ↦ subst (λ (i : ℕ). p (cell c i) ≡ true) d y
-              | inr d ↦ rises_held n (suc r) j (omega arith) (omega arith)
-            ]
-        | inr y ↦
-            let e : rises p c (suc n) r ≡ r = ap (λ (b : Bool). cond b (rises p c n (suc r)) r) y in
-            absurd (omega arith)
-      ]
+  rises_held (suc n) r j a b = grind (arith, rises_held n (suc r) j)
 
   rises_free : (n r : ℕ) → rises p c n r < n + r → p (cell c (rises p c n r)) ≡ false
   rises_free zero r b = absurd (omega arith)
-  rises_free (suc n) r b =
-      elim (cases_Bool (p (cell c r))) [
-        | inl y ↦
-            let e : rises p c (suc n) r ≡ rises p c n (suc r) = ap (λ (b : Bool). cond b (rises p c n (suc r)) r) y in
-            ap (λ (i : ℕ). p (cell c i)) e ∙ rises_free n (suc r) (omega arith)
-        | inr y ↦
-            let e : rises p c (suc n) r ≡ r = ap (λ (b : Bool). cond b (rises p c n (suc r)) r) y in
-            ap (λ (i : ℕ). p (cell c i)) e ∙ y
-      ]
+  rises_free (suc n) r b = grind (arith, rises_free n (suc r))
 
   rises_le : (n r : ℕ) → rises p c n r ≤ n + r
   rises_le zero r = omega arith
-  rises_le (suc n) r =
-      elim (cases_Bool (p (cell c r))) [
-        | inl y ↦
-            let e : rises p c (suc n) r ≡ rises p c n (suc r) = ap (λ (b : Bool). cond b (rises p c n (suc r)) r) y in
-            let l = rises_le n (suc r) in omega arith
-        | inr y ↦ let e : rises p c (suc n) r ≡ r = ap (λ (b : Bool). cond b (rises p c n (suc r)) r) y in omega arith
-      ]
+  rises_le (suc n) r = grind (arith, rises_le n (suc r))
 
   pub landing_held : (j : ℕ) → j < landing p c → p (cell c j) ≡ true
   unfolding landing
@@ -66,28 +42,12 @@ module _ (p : Cell → Bool) (c : ℕ) where
   landing_in = rises_le 6 0
 
   pub landing_le : (j : ℕ) → p (cell c j) ≡ false → landing p c ≤ j
-  landing_le j e =
-      elim (cases_lt j (landing p c)) [
-        | inl l ↦ absurd (both_ways _ e (landing_held j l))
-        | inr l ↦ l
-      ]
+  landing_le j e = grind (arith, landing_held j)
 
-  -- a loop that looks for it, row by row
-  pub rises_stop : (r : ℕ) → r < 6 → p (cell c r) ≡ false → rises p c (6 - r) r ≡ r
-  rises_stop r l h =
-      let e : 6 - r ≡ suc (5 - r) = omega arith in
-      ap (λ (n : ℕ). rises p c n r) e ∙ ap (λ (b : Bool). cond b (rises p c (5 - r) (suc r)) r) h
-
-  pub rises_go : (r : ℕ) → r < 6 → p (cell c r) ≡ true → rises p c (6 - r) r ≡ rises p c (6 - (r + 1)) (r + 1)
-  rises_go r l h =
-      let e : 6 - r ≡ suc (6 - (r + 1)) = omega arith in
-      let d : suc r ≡ r + 1 = omega arith in
-      ap (λ (n : ℕ). rises p c n r) e ∙ ap (λ (b : Bool). cond b (rises p c (6 - (r + 1)) (suc r)) r) h
-      ∙ ap (λ (i : ℕ). rises p c (6 - (r + 1)) i) d
-
-  pub landing_is : landing p c ≡ rises p c 6 0
+  -- a search among the cells of the column, from the bottom up
+  pub lowest : lowest_free p c ≡ (if nat_lt c 7 && nat_lt (landing p c) 6 then Some (cell c (landing p c)) else None)
   unfolding landing
-  landing_is = refl
+  lowest = grind arith
 
 -- ---- the word with one stone more
 
@@ -98,14 +58,10 @@ stone_other : (w k j : ℕ) → (j ≡ k → ⊥) → stone (bit_or w (2 ^ k)) j
 stone_other w k j d = ap (λ (b : ℕ). eqb b 1) (bit_set_other w k j d)
 
 pub stone_kept : (w k j : ℕ) → stone w j ≡ true → stone (bit_or w (2 ^ k)) j ≡ true
-stone_kept w k j h =
-    elim (cases_eq j k) [
-      | inl e ↦ subst (λ (i : ℕ). stone (bit_or w (2 ^ k)) i ≡ true) (sym e) (stone_same w k)
-      | inr d ↦ stone_other w k j d ∙ h
-    ]
+stone_kept w k j h = grind (arith, h, stone_same w k, stone_other w k j)
 
 pub stone_since : (w k j : ℕ) → stone (bit_or w (2 ^ k)) j ≡ true → (j ≡ k) ⊎ (stone w j ≡ true)
-stone_since w k j h = elim (cases_eq j k) [ inl e ↦ inl e | inr d ↦ inr (sym (stone_other w k j d) ∙ h) ]
+stone_since w k j h = grind (arith, h, stone_other w k j)
 
 pub placed_here : (w : ℕ) (c : Cell) → has_stone (placed w c) c ≡ true
 placed_here w c = stone_same w (place c)

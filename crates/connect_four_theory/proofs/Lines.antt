@@ -1,15 +1,17 @@
 -- Four in a line on the board, as four bits of a word, each a step past the one before.
-use Rattle.std.proofs.Common.{◌≡◌, ℕ, zero, suc, ◌+◌, ◌*◌, ◌/◌, ◌^◌, ◌<◌, ◌≤◌, min, Bool, true, false, not, ◌&&◌, ◌||◌, ◌⊎◌, List, [], ◌∷◌, length, Decides, sym, refl, ap, ◌∙◌, subst, ap₂, inl, inr, arith, lit<, lit≤}
+use Rattle.std.proofs.Common.{◌≡◌, ℕ, zero, suc, ◌+◌, ◌*◌, ◌/◌, ◌%◌, ◌^◌, ◌<◌, ◌≤◌, min, Bool, true, false, not, ◌&&◌, ◌⊎◌, List, [], ◌∷◌, length, Decides, sym, refl, ap, ◌∙◌, subst, ap₂, inl, inr, arith, lit<, lit≤}
 use lib.Bits.{bit_and, bit_xor}
-use Rattle.std.specs.List.{AllByRecursion}
+use Rattle.std.specs.Prelude.{MatchBool}
+use Rattle.std.specs.List.{AllByRecursion, AllWithin, HoldsAt}
 use Rattle.std.proofs.lemmas.Bool.{and_left, and_right, and_parts, and_from, ltb-true, lt-ltb, le-ltb, cases_Bool, cases_lt, both_ways}
-use Rattle.std.proofs.lemmas.Bool.Decides.{same_from_decides, Decides-or}
+use Rattle.std.proofs.lemmas.Bool.Decides.{same_from_decides}
 use Rattle.board.specs.Windows.{Cell, cell, every, windows, in_line}
 use Rattle.board.specs.Straight.{Heading, upright, level, rising, falling, Step, Straight, Inside, inside}
 use Rattle.board.proofs.Windows.{some_in, every_weaker}
 use Rattle.board.proofs.Straight.{in_line_right}
 use Rattle.connect_four_theory.specs.Stones.{bit, stone, place, cell_at, has_stone, four_in_line, OnBoard, Run}
-use Rattle.connect_four_theory.proofs.Bits.{bit_lt, bit_shr, bit_of_and, some_bit, not_zero, bit_past, bit_of_xor, bit_cases, stone_yes, stone_no, yes_stone, no_stone}
+use Rattle.std.proofs.lemmas.Nat.Bits.{bit_at_and, bit_at_xor, bit_at-lt, bit_at_above}
+use Rattle.connect_four_theory.proofs.Bits.{bit_shr, some_bit, not_zero, bit_cases, stone_yes, stone_no, yes_stone, no_stone}
 
 -- ---- cells and their places
 
@@ -114,10 +116,35 @@ line_decides w on = (
   ]),
 )
 
-pub line_is : (w : ℕ) → OnBoard w → (a b c d : Bool) → Decides a (Run w 1) → Decides b (Run w 6) → Decides c (Run w 7) → Decides d (Run w 8)
-    → (a || (b || (c || d))) ≡ four_in_line (has_stone w)
+abbrev steps : List ℕ
+steps = 1 ∷ 6 ∷ 7 ∷ 8 ∷ []
+
+run_at : (w k : ℕ) → k < 4 → HoldsAt (Run w) steps k → Runs w
 unfolding Runs
-line_is w on a b c d ha hb hc hd = same_from_decides _ _ (Decides-or a _ ha (Decides-or b _ hb (Decides-or c d hc hd))) (line_decides w on)
+run_at w zero l h = inl (h 0)
+run_at w (suc zero) l h = inr (inl (h 0))
+run_at w (suc (suc zero)) l h = inr (inr (inl (h 0)))
+run_at w (suc (suc (suc zero))) l h = inr (inr (inr (h 0)))
+run_at w (suc (suc (suc (suc k)))) l h = absurd (omega arith)
+
+-- the answer of a search among the steps
+any_decides : (w : ℕ) (any : Bool) → MatchBool any ((k : ℕ) × (k < 4) × HoldsAt (Run w) steps k) (AllWithin (λ by. Run w by → ⊥) steps 0 4) → Decides any (Runs w)
+unfolding Runs
+any_decides w true m = ((λ e. run_at w m.0 m.1 m.2), (λ r. refl))
+any_decides w false m = (
+  (λ e. absurd (both_ways false refl e)),
+  (λ r. absurd (elim r [
+    | inl x ↦ m 0 0 (lit≤ tt) (lit< tt) x
+    | inr r' ↦ elim r' [
+      | inl x ↦ m 1 0 (lit≤ tt) (lit< tt) x
+      | inr r'' ↦ elim r'' [ inl x ↦ m 2 0 (lit≤ tt) (lit< tt) x | inr x ↦ m 3 0 (lit≤ tt) (lit< tt) x ]
+    ]
+  ])),
+)
+
+pub line_is : (w : ℕ) → OnBoard w → (any : Bool) → MatchBool any ((k : ℕ) × (k < 4) × HoldsAt (Run w) steps k) (AllWithin (λ by. Run w by → ⊥) steps 0 4)
+    → any ≡ four_in_line (has_stone w)
+line_is w on any m = same_from_decides _ _ (any_decides w any m) (line_decides w on)
 
 -- ---- the shifts
 
@@ -125,12 +152,12 @@ quads : ℕ → ℕ → ℕ
 quads w s = bit_and (bit_and w (w / 2 ^ s)) (bit_and w (w / 2 ^ s) / 2 ^ (2 * s))
 
 bit_pairs : (w s k : ℕ) → bit (bit_and w (w / 2 ^ s)) k ≡ min (bit w k) (bit w (s + k))
-bit_pairs w s k = bit_of_and k w (w / 2 ^ s) ∙ ap (λ (x : ℕ). min (bit w k) x) (bit_shr w s k)
+bit_pairs w s k = bit_at_and w (w / 2 ^ s) k ∙ ap (λ (x : ℕ). min (bit w k) x) (bit_shr w s k)
 
 bit_quads : (w s k : ℕ) → bit (quads w s) k ≡ min (min (bit w k) (bit w (s + k))) (min (bit w (2 * s + k)) (bit w (s + (2 * s + k))))
 unfolding quads
 bit_quads w s k =
-    bit_of_and k (bit_and w (w / 2 ^ s)) (bit_and w (w / 2 ^ s) / 2 ^ (2 * s))
+    bit_at_and (bit_and w (w / 2 ^ s)) (bit_and w (w / 2 ^ s) / 2 ^ (2 * s)) k
     ∙ ap₂ min (bit_pairs w s k) (bit_shr (bit_and w (w / 2 ^ s)) (2 * s) k ∙ bit_pairs w s (2 * s + k))
 
 pub quads_run : (w s : ℕ) → 0 < bit_and (bit_and w (w / 2 ^ s)) (bit_and w (w / 2 ^ s) / 2 ^ (2 * s)) → Run w s
@@ -140,10 +167,10 @@ quads_run w s h =
     let k = b.0 in
     let e = bit_quads w s k in
     let o = b.1 in
-    let l0 = bit_lt w k in
-    let l1 = bit_lt w (s + k) in
-    let l2 = bit_lt w (2 * s + k) in
-    let l3 = bit_lt w (s + (2 * s + k)) in
+    let l0 = bit_at-lt w k in
+    let l1 = bit_at-lt w (s + k) in
+    let l2 = bit_at-lt w (2 * s + k) in
+    let l3 = bit_at-lt w (s + (2 * s + k)) in
     let yes : (j : ℕ) → bit w j ≡ 1 → stone w j ≡ true = stone_yes w in
     (k, and_from _ _ (yes k (omega arith)) (and_from _ _ (yes (s + k) (omega arith)) (and_from _ _ (yes (2 * s + k) (omega arith)) (and_from _ _ (yes (s + (2 * s + k)) (omega arith)) refl))))
 
@@ -200,12 +227,7 @@ tests (suc n) p = p n && tests n p
 
 tested : (p : ℕ → Bool) (n : ℕ) → tests n p ≡ true → (k : ℕ) → k < n → p k ≡ true
 tested p zero h k l = absurd (omega arith)
-tested p (suc n) h k l =
-    let e = and_parts _ _ h in
-    elim (cases_lt k n) [
-      | inl s ↦ tested p n e.1 k s
-      | inr s ↦ subst (λ (j : ℕ). p j ≡ true) (omega arith) e.0
-    ]
+tested p (suc n) h k l = grind (arith, tested p n)
 
 board_low : tests 64 (λ k. same (stone all_cells k) (inside 7 6 (cell_at k))) ≡ true
 unfolding same
@@ -215,7 +237,7 @@ board_is : (k : ℕ) → stone all_cells k ≡ inside 7 6 (cell_at k)
 board_is k =
     elim (cases_lt k 64) [
       | inl l ↦ same_is _ _ (tested (λ k. same (stone all_cells k) (inside 7 6 (cell_at k))) 64 board_low k l)
-      | inr l ↦ stone_no all_cells k (bit_past all_cells 64 k (lit< tt) l) ∙ sym (and_left _ _ (le-ltb (k / 7) 7 (omega arith)))
+      | inr l ↦ stone_no all_cells k (bit_at_above all_cells 64 k (lit< tt) l) ∙ sym (and_left _ _ (le-ltb (k / 7) 7 (omega arith)))
     ]
 
 stone_not : (w k : ℕ) → OnBoard w → stone (bit_xor all_cells w) k ≡ (inside 7 6 (cell_at k) && not (stone w k))
@@ -224,14 +246,14 @@ stone_not w k on =
       | inl y ↦
           let b = yes_stone all_cells k (board_is k ∙ y) in
           elim (bit_cases w k) [
-            | inl e ↦ stone_no (bit_xor all_cells w) k (bit_of_xor k all_cells w ∙ ap₂ bit_xor b e) ∙ sym (and_right _ _ (ap not (stone_yes w k e)))
-            | inr e ↦ stone_yes (bit_xor all_cells w) k (bit_of_xor k all_cells w ∙ ap₂ bit_xor b e) ∙ sym (and_from _ _ y (ap not (stone_no w k e)))
+            | inl e ↦ stone_no (bit_xor all_cells w) k (bit_at_xor all_cells w k ∙ ap₂ (λ (x y : ℕ). (x + y) % 2) b e) ∙ sym (and_right _ _ (ap not (stone_yes w k e)))
+            | inr e ↦ stone_yes (bit_xor all_cells w) k (bit_at_xor all_cells w k ∙ ap₂ (λ (x y : ℕ). (x + y) % 2) b e) ∙ sym (and_from _ _ y (ap not (stone_no w k e)))
           ]
       | inr n ↦
           let b = no_stone all_cells k (board_is k ∙ n) in
           elim (bit_cases w k) [
             | inl e ↦ absurd (both_ways _ n (on k (stone_yes w k e)))
-            | inr e ↦ stone_no (bit_xor all_cells w) k (bit_of_xor k all_cells w ∙ ap₂ bit_xor b e) ∙ sym (and_left _ _ n)
+            | inr e ↦ stone_no (bit_xor all_cells w) k (bit_at_xor all_cells w k ∙ ap₂ (λ (x y : ℕ). (x + y) % 2) b e) ∙ sym (and_left _ _ n)
           ]
     ]
 

@@ -15,7 +15,8 @@ use Rattle.board.specs.Windows.{Cell, cell, windows, in_line}
 use Rattle.board.specs.Straight.{Inside}
 use Rattle.connect_four_theory.specs.Stones.{stone, place, has_stone, placed, four_in_line}
 use Rattle.connect_four_theory.specs.Game.{Position, start, held, landing, status_of, fits, target, first_after, second_after, chance_of, four, connect_four, Apart, over, Settled}
-use Rattle.connect_four_theory.proofs.Bits.{stone_zero, stone_no}
+use Rattle.std.proofs.lemmas.Nat.Bits.{bit_at-zero}
+use Rattle.connect_four_theory.proofs.Bits.{stone_no}
 use Rattle.connect_four_theory.proofs.Lines.{line_more}
 use Rattle.connect_four_theory.proofs.Falls.{landing_held, landing_free, landing_le, stone_kept, stone_since, on_more, one_more, at_most, free_cell, cell_free}
 
@@ -102,24 +103,13 @@ abbrev Clear : ℕ → ℕ → Type 0
 Clear f s = (four_in_line (has_stone f) ≡ false) × (four_in_line (has_stone s) ≡ false)
 
 open_tests : (x y z : Bool) → tell x y z ≡ Open → (x ≡ false) × (y ≡ false) × (z ≡ false)
-open_tests true y z h = let bad : ◌≡◌ {A = ℕ} 0 1 = cc in absurd (omega arith)
-open_tests false true z h = let bad : ◌≡◌ {A = ℕ} 0 1 = cc in absurd (omega arith)
-open_tests false false true h = let bad : ◌≡◌ {A = ℕ} 0 1 = cc in absurd (omega arith)
-open_tests false false false h = (refl, refl, refl)
+open_tests x y z h = grind (arith, h)
 
 pub won_test : (x y z : Bool) (t : Side) → tell x y z ≡ Won t → pick t x y ≡ true
-won_test true y z First h = refl
-won_test true y z Second h = let bad : ◌≡◌ {A = ℕ} 0 1 = cc in absurd (omega arith)
-won_test false true z First h = let bad : ◌≡◌ {A = ℕ} 0 1 = cc in absurd (omega arith)
-won_test false true z Second h = refl
-won_test false false true t h = let bad : ◌≡◌ {A = ℕ} 0 1 = cc in absurd (omega arith)
-won_test false false false t h = let bad : ◌≡◌ {A = ℕ} 0 1 = cc in absurd (omega arith)
+won_test x y z t h = elim t [ First ↦ grind (arith, h) | Second ↦ grind (arith, h) ]
 
 pub drawn_tests : (x y z : Bool) → tell x y z ≡ Drawn → (x ≡ false) × (y ≡ false) × (z ≡ true)
-drawn_tests true y z h = let bad : ◌≡◌ {A = ℕ} 0 1 = cc in absurd (omega arith)
-drawn_tests false true z h = let bad : ◌≡◌ {A = ℕ} 0 1 = cc in absurd (omega arith)
-drawn_tests false false true h = (refl, refl, refl)
-drawn_tests false false false h = let bad : ◌≡◌ {A = ℕ} 0 1 = cc in absurd (omega arith)
+drawn_tests x y z h = grind (arith, h)
 
 pub open_clear : (f s : ℕ) → status_of f s ≡ Open → Clear f s
 open_clear f s o = let e = open_tests (four_in_line (has_stone f)) (four_in_line (has_stone s)) (eqb (ones f + ones s) 42) o in (e.0, e.1)
@@ -186,7 +176,7 @@ line_gap : (a b : ℕ) → Apart a b → four_in_line (has_stone a) ≡ true →
 line_gap a b ap' h = line_more (has_stone a) (λ c. not (has_stone b c)) (λ c e. ap not (ap' c e)) h
 
 apart_turned : (a b : ℕ) → Apart a b → Apart b a
-apart_turned a b h c e = elim (cases_Bool (has_stone a c)) [ inl y ↦ absurd (both_ways _ (h c y) e) | inr n ↦ n ]
+apart_turned a b h c e = grind (arith, h c, e)
 
 winning : (f s : ℕ) (t : Side) → Settled f s → status_of f s ≡ Won t → chance_of f s t ≡ true
 winning f s First ok h = line_gap f s ok.apart (won_test (four_in_line (has_stone f)) (four_in_line (has_stone s)) (eqb (ones f + ones s) 42) First h)
@@ -212,7 +202,7 @@ unfolding in_line windows
 no_line = refl
 
 no_stones : (k : ℕ) → stone 0 k ≡ false
-no_stones k = stone_no 0 k (stone_zero k)
+no_stones k = stone_no 0 k (bit_at-zero k)
 
 pub settled_start : Settled 0 0
 settled_start =

@@ -15,7 +15,7 @@
 --   LegalRight      a code is legal just where the game is open and its column has a free cell
 --   ChanceRight     a side without a chance wins by no series
 --   ColumnSample    codes 0 1 0 1 0 1 0: legal, and first has won
-use Rattle.std.specs.Prelude.{◌≡◌, ℕ, ◌+◌, ◌<◌, ◌≤◌, Bool, true, false, List, [], ◌∷◌, length, Decides, count_by, ◌==◌, ◌≢◌, count_ones}
+use Rattle.std.specs.Prelude.{◌≡◌, ℕ, ◌+◌, ◌<◌, ◌≤◌, Bool, true, false, List, [], ◌∷◌, length, IsTrue, ◌↔◌, count_by, ◌==◌, ◌≢◌, count_ones}
 use Rattle.side.specs.declared.Side.{Side}
 use Rattle.side.specs.declared.Side.TheVariants.{First}
 use Rattle.side.specs.TwoSides.{pick}
@@ -61,7 +61,7 @@ abbrev pub Made : Position → Type 0
 Made p = ∥ ((w : List ℕ) × (connect_four.legal w ≡ true) × (p ≡ after four start w) × (count_ones p.first + count_ones p.second ≡ length w)) ∥₁
 
 abbrev pub FullRight : Type 0
-FullRight = (w : List ℕ) → connect_four.legal w ≡ true → let p = after four start w in Decides (count_ones p.first + count_ones p.second == 42) (Full p)
+FullRight = (w : List ℕ) → connect_four.legal w ≡ true → let p = after four start w in IsTrue (count_ones p.first + count_ones p.second == 42) ↔ Full p
 
 abbrev pub NoLine : Position → Type 0
 NoLine p = (side : Side) → HasLine (word_of side p) → ⊥
@@ -77,7 +77,7 @@ StatusRight = (w : List ℕ) → connect_four.legal w ≡ true → Judged (after
 abbrev pub LegalRight : Type 0
 LegalRight =
     (p : Position) (code : ℕ)
-    → Decides (four.legal p code) ((four.status p ≡ Open) × (code < 7) × ((row : ℕ) × (row < 6) × (held p.first p.second (cell code row) ≡ false)))
+    → IsTrue (four.legal p code) ↔ ((four.status p ≡ Open) × (code < 7) × ((row : ℕ) × (row < 6) × (held p.first p.second (cell code row) ≡ false)))
 
 abbrev pub ChanceRight : Type 0
 ChanceRight = (w : List ℕ) (side : Side) → connect_four.chance w side ≡ false → NoWin (after_codes connect_four w) side

@@ -1,9 +1,12 @@
 -- Connect Four. A position is a word of stones for each side, and the side to move; a code is a column.
 --   Position    the two words and the side to move; `at` makes one, `start` is the empty board with first to move
+--   position    the position of a pair of words and the side to move
 --   held        whether a cell has a stone of either side
 --   holder      whose stone lies in a cell, none outside the board
 --   rises       from a row on, the first free one of the next n cells of a column
 --   landing     the row of a column's lowest free cell, 6 where the column is full
+--   column_cells  the cells of a column from the bottom up; a column that the board has not has none
+--   lowest_free  the first of them that is free
 --   status_of   four in a line win; 42 stones without that are a draw
 --   status_since  the same where the game was open before the mover's last stone: only the mover can have a line
 --   fits        a code is legal: the game is open, and the code is a column that is not full
@@ -17,8 +20,10 @@
 --   over        the cell over another
 --   Rests       no stone lies over a free cell
 --   Settled     what every position keeps: words on the board, apart and at rest
-use Rattle.std.specs.Prelude.{◌≡◌, ℕ, zero, suc, ◌+◌, ◌<◌, Bool, true, false, cond, not, ◌&&◌, ◌||◌, Some, None, Option, ◌==◌, count_ones, nat_lt}
+use Rattle.std.specs.Prelude.{◌≡◌, ℕ, zero, suc, ◌+◌, ◌<◌, Bool, true, false, not, ◌&&◌, ◌||◌, Some, None, Option, ◌==◌, count_ones, nat_lt, List, find, filter_map, if◌then◌else◌}
+use Rattle.std.specs.List.{range_with_len}
 use Rattle.side.specs.declared.Side.{Side}
+use Rattle.side.specs.declared.PerSide.{PerSide}
 use Rattle.side.specs.declared.Side.TheVariants.{First, Second}
 use Rattle.side.specs.TwoSides.{opponent, pick}
 use Rattle.rules.specs.declared.Status.{Status}
@@ -37,6 +42,9 @@ pub record Position : Type 0 where
 abbrev pub at : ℕ → ℕ → Side → Position
 at f s t = record { first = f; second = s; turn = t }
 
+abbrev pub position : PerSide ℕ → Side → Position
+position p t = at p.first p.second t
+
 abbrev pub start : Position
 start = at 0 0 First
 
@@ -44,29 +52,36 @@ abbrev pub held : ℕ → ℕ → Cell → Bool
 held f s c = has_stone f c || has_stone s c
 
 abbrev pub holder : ℕ → ℕ → Cell → Option Side
-holder f s c = cond (inside 7 6 c) (cond (has_stone f c) (Some First) (cond (has_stone s c) (Some Second) None)) None
+holder f s c = if inside 7 6 c then (if has_stone f c then Some First else if has_stone s c then Some Second else None) else None
 
 abbrev pub rises : (Cell → Bool) → ℕ → ℕ → ℕ → ℕ
 rises p column zero r = r
-rises p column (suc n) r = cond (p (cell column r)) (rises p column n (suc r)) r
+rises p column (suc n) r = if p (cell column r) then rises p column n (suc r) else r
 
 unfoldable pub landing : (Cell → Bool) → ℕ → ℕ
 landing p column = rises p column 6 0
 
+abbrev pub column_cells : ℕ → List Cell
+column_cells column = filter_map (λ row. if inside 7 6 (cell column row) then Some (cell column row) else None) (range_with_len 0 6)
+
+abbrev pub lowest_free : (Cell → Bool) → ℕ → Option Cell
+lowest_free p column = find (λ c. not (p c)) (column_cells column)
+
 abbrev pub status_of : ℕ → ℕ → Status
 status_of f s =
-    cond (four_in_line (has_stone f)) (Won First)
-    (cond (four_in_line (has_stone s)) (Won Second)
-    (cond (count_ones f + count_ones s == 42) Drawn Open))
+    if four_in_line (has_stone f) then Won First
+    else if four_in_line (has_stone s) then Won Second
+    else if count_ones f + count_ones s == 42 then Drawn
+    else Open
 
 abbrev pub status_since : Side → ℕ → ℕ → Status
-status_since mover own other = cond (four_in_line (has_stone own)) (Won mover) (cond (count_ones own + count_ones other == 42) Drawn Open)
+status_since mover own other = if four_in_line (has_stone own) then Won mover else if count_ones own + count_ones other == 42 then Drawn else Open
 
 abbrev pub fits : ℕ → ℕ → ℕ → Bool
 fits f s code = is_open (status_of f s) && (nat_lt code 7 && nat_lt (landing (held f s) code) 6)
 
 abbrev pub falls_to : ℕ → ℕ → ℕ → Option ℕ
-falls_to f s code = cond (fits f s code) (Some (landing (held f s) code)) None
+falls_to f s code = if fits f s code then Some (landing (held f s) code) else None
 
 abbrev pub target : ℕ → ℕ → ℕ → Cell
 target f s code = cell code (landing (held f s) code)

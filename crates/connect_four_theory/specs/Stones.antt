@@ -9,11 +9,12 @@
 --   OnBoard      a word has stones in cells of the board only
 --   run, Run     four bits of a word, each a step past the one before, and that a word has such
 use Rattle.std.specs.Prelude.{◌≡◌, ℕ, ◌+◌, ◌*◌, ◌/◌, ◌%◌, ◌^◌, Bool, true, List, [], ◌∷◌, ◌==◌, bit_or}
+use Rattle.std.specs.Int.{bit_at}
 use Rattle.board.specs.Windows.{Cell, cell, every, grid, windows, in_line}
 use Rattle.board.specs.Straight.{inside}
 
 abbrev pub bit : ℕ → ℕ → ℕ
-bit w k = w / 2 ^ k % 2
+bit = bit_at
 
 abbrev pub stone : ℕ → ℕ → Bool
 stone w k = bit w k == 1
