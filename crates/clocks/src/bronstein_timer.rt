@@ -8,7 +8,7 @@ ghost use Rattle.clocks_theory.specs.Kinds;
 ghost use Rattle.clocks_theory.proofs.Runs.{passes};
 
 use crate::held::Bronstein;
-use crate::settings::{MOST_EXTRA, MOST_MAIN, capped, in_range};
+use crate::settings::{MOST_EXTRA, MOST_MAIN, capped};
 use crate::timer::Timer;
 use refusal::Refusal;
 
@@ -16,7 +16,7 @@ impl Bronstein {
     pub fn new(main: u32, delay: u32) -> Result<Bronstein, Refusal>
         ensures { Answers (bronstein_refusal main delay) (λ t. Starts (bronstein_plan t) (bronstein_line t) (bronstein_left main delay)) result }
     {
-        if in_range(1, MOST_MAIN, main) & in_range(0, MOST_EXTRA, delay) {
+        if (1..=MOST_MAIN).contains(&main) && delay <= MOST_EXTRA {
             Ok(Bronstein {
                 main,
                 delay,
@@ -46,11 +46,10 @@ impl Timer for Bronstein {
     }
 
     fn spend(&mut self, reading: u32) -> bool {
-        if reading < self.left {
+        let in_time = reading < self.left;
+        if in_time {
             self.left = capped(self.left - reading + reading.min(self.delay));
-            true
-        } else {
-            false
         }
+        in_time
     }
 }

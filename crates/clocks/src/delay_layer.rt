@@ -12,7 +12,7 @@ ghost use Rattle.clocks_theory.specs.Kinds;
 ghost use Rattle.clocks_theory.proofs.Runs.{passes};
 
 use crate::held::Delay;
-use crate::settings::{MOST_EXTRA, MOST_TIME, in_range};
+use crate::settings::{MOST_EXTRA, MOST_TIME};
 use clock::Clock;
 use refusal::Refusal;
 use side::{PerSide, Side};
@@ -21,20 +21,13 @@ impl<C: Clock + Drop> Delay<C> {
     pub fn new(below: C, delays: PerSide<u32>) -> Result<Delay<C>, Refusal>
         ensures { Answers (delay_refusal delays) (λ c. (delayed C.Clock.plan c ≡ delay_times delays (C.Clock.plan below)) × (delayed C.Clock.line c ≡ delay_times delays (C.Clock.line below))) result }
     {
-        if in_range(0, MOST_EXTRA, delays.first) & in_range(0, MOST_EXTRA, delays.second) {
+        // each side by its name: `all` over an array of the two sides would be no plainer
+        if delays.first <= MOST_EXTRA && delays.second <= MOST_EXTRA {
             Ok(Delay { below, delays })
         } else {
             Err(Refusal::Setting)
         }
     }
-}
-
-// Spends on a clock what a reading has over a delay.
-fn spend_over<C: Clock>(clock: &mut C, side: Side, reading: u32, delay: u32)
-    ensures plan { C.Clock.plan clock.new ≡ C.Clock.plan clock.old }
-    ensures line { C.Clock.line clock.new ≡ spent (C.Clock.line clock.old) side (reading - delay) }
-{
-    let _ = clock.spend(side, reading.saturating_sub(delay));
 }
 
 impl<C: Clock> Delay<C> {
@@ -45,7 +38,7 @@ impl<C: Clock> Delay<C> {
         ensures line { delayed C.Clock.line self.new ≡ past (delayed C.Clock.line self.old) side reading }
     {
         let delay = *self.delays.of(side);
-        spend_over(&mut self.below, side, reading, delay);
+        let _ = self.below.spend(side, reading.saturating_sub(delay));
     }
 }
 

@@ -7,7 +7,7 @@ ghost use Rattle.clocks_theory.proofs.Bounds.{fischer_bounds};
 ghost use Rattle.clocks_theory.proofs.Runs.{passes};
 
 use crate::held::Fischer;
-use crate::settings::{MOST_EXTRA, MOST_MAIN, capped, in_range};
+use crate::settings::{MOST_EXTRA, MOST_MAIN, capped};
 use crate::timer::Timer;
 use refusal::Refusal;
 
@@ -15,7 +15,7 @@ impl Fischer {
     pub fn new(main: u32, increment: u32) -> Result<Fischer, Refusal>
         ensures { Answers (fischer_refusal main increment) (λ t. Starts (fischer_plan t) (fischer_line t) (fischer_left main increment)) result }
     {
-        if in_range(1, MOST_MAIN, main) & in_range(0, MOST_EXTRA, increment) {
+        if (1..=MOST_MAIN).contains(&main) && increment <= MOST_EXTRA {
             Ok(Fischer {
                 main,
                 increment,
@@ -45,11 +45,10 @@ impl Timer for Fischer {
     }
 
     fn spend(&mut self, reading: u32) -> bool {
-        if reading < self.left {
+        let in_time = reading < self.left;
+        if in_time {
             self.left = capped(self.left - reading + self.increment);
-            true
-        } else {
-            false
         }
+        in_time
     }
 }

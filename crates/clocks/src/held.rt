@@ -27,6 +27,7 @@ pub struct Fischer {
 }
 
 // Time that gives a turn's reading back, up to the delay.
+// Fischer's fields but for a name: in one struct for both, `self.time.left` would stand for `self.left` in each line, no plainer.
 #[derive(Clone, Copy)]
 pub struct Bronstein {
     pub(crate) main: u32,

@@ -8,37 +8,17 @@ ghost use Rattle.clocks_theory.proofs.Bounds.{japanese_bounds, overtime_most};
 ghost use Rattle.clocks_theory.proofs.Runs.{passes};
 
 use crate::held::Japanese;
-use crate::settings::{MOST_EXTRA, MOST_MAIN, in_range};
+use crate::settings::{MOST_EXTRA, MOST_MAIN, MOST_PERIODS};
 use crate::timer::Timer;
 use refusal::Refusal;
-
-// The time of some periods.
-fn time_of(periods: u32, length: u32) -> u32
-    requires few { periods ≤ 100 }
-    requires small { length ≤ 600000 }
-    ensures value { result ≡ periods * length }
-    ensures most { result ≤ 60000000 }
-{
-    periods * length
-}
-
-// The periods that a time costs: whole ones only, and not all.
-fn lost(time: u32, periods: u32, length: u32) -> u32
-    requires long { 1 ≤ length }
-    requires within { time < periods * length }
-    ensures value { result ≡ time / length }
-    ensures fewer { result < periods }
-{
-    time / length
-}
 
 impl Japanese {
     pub fn new(main: u32, periods: u32, length: u32) -> Result<Japanese, Refusal>
         ensures { Answers (japanese_refusal main periods length) (λ t. Starts (japanese_plan t) (japanese_line t) (japanese_left main periods length)) result }
     {
-        if in_range(0, MOST_MAIN, main)
-            & in_range(1, 100, periods)
-            & in_range(1, MOST_EXTRA, length)
+        if main <= MOST_MAIN
+            && (1..=MOST_PERIODS).contains(&periods)
+            && (1..=MOST_EXTRA).contains(&length)
         {
             Ok(Japanese {
                 main,
@@ -69,10 +49,12 @@ impl Timer for Japanese {
         self.held = self.periods;
     }
 
+    #[tactic(auto, using(clocks_theory::proofs::Bounds::overtime_most))]
     fn left(&self) -> u32 {
-        self.rest + time_of(self.held, self.length)
+        self.rest + self.held * self.length
     }
 
+    #[tactic(auto, using(clocks_theory::proofs::Bounds::periods_lost))]
     fn spend(&mut self, reading: u32) -> bool {
         if reading >= self.left() {
             return false;
@@ -80,7 +62,7 @@ impl Timer for Japanese {
         if reading < self.rest {
             self.rest -= reading;
         } else {
-            self.held -= lost(reading - self.rest, self.held, self.length);
+            self.held -= (reading - self.rest) / self.length;
             self.rest = 0;
         }
         true

@@ -7,7 +7,7 @@ ghost use Rattle.clocks_theory.proofs.Bounds.{plain_bounds};
 ghost use Rattle.clocks_theory.proofs.Runs.{passes};
 
 use crate::held::Plain;
-use crate::settings::{MOST_MAIN, in_range};
+use crate::settings::MOST_MAIN;
 use crate::timer::Timer;
 use refusal::Refusal;
 
@@ -15,7 +15,7 @@ impl Plain {
     pub fn new(main: u32) -> Result<Plain, Refusal>
         ensures { Answers (plain_refusal main) (λ t. Starts (plain_plan t) (plain_line t) (plain_left main)) result }
     {
-        if in_range(1, MOST_MAIN, main) {
+        if (1..=MOST_MAIN).contains(&main) {
             Ok(Plain { main, left: main })
         } else {
             Err(Refusal::Setting)
@@ -41,11 +41,10 @@ impl Timer for Plain {
     }
 
     fn spend(&mut self, reading: u32) -> bool {
-        if reading < self.left {
+        let in_time = reading < self.left;
+        if in_time {
             self.left -= reading;
-            true
-        } else {
-            false
         }
+        in_time
     }
 }

@@ -7,6 +7,7 @@ use crate::timer::Timer;
 use clock::Clock;
 use side::Side;
 
+// Not `side::PerSide`: no `impl Clock` can stand here for a struct of another crate, and one struct more around it would be no plainer.
 #[derive(Clone, Copy)]
 pub struct TwoTimers<T> {
     pub first: T,
@@ -31,6 +32,7 @@ impl<T: Timer> Clock for TwoTimers<T> {
         self.second.reset();
     }
 
+    // By `match`, here and in `spend`: a function that lends out a side's timer to be changed would be a `match` too.
     fn left(&self, side: Side) -> u32 {
         match side {
             Side::First => self.first.left(),

@@ -1,5 +1,5 @@
 -- What each clock's left and its in-time readings come to over every list of readings.
-use Rattle.std.proofs.Common.{◌≡◌, ℕ, ◌+◌, ◌-◌, ◌*◌, ◌<◌, ◌≤◌, cond, List, [], ◌∷◌, ◌++◌, map, length, sum, refl, ap, subst, arith}
+use Rattle.std.proofs.Common.{◌≡◌, ℕ, ◌+◌, ◌-◌, ◌*◌, ◌<◌, ◌≤◌, if◌then◌else◌, List, [], ◌∷◌, ◌++◌, map, length, sum, refl, ap, subst, arith}
 use Rattle.std.proofs.lemmas.Bool.{lt-ltb}
 use Rattle.std.proofs.lemmas.List.Sums.{sum_by-cons}
 use Rattle.clocks_theory.specs.Movements.{Lefts, onward, after, InBounds}
@@ -58,7 +58,7 @@ japanese_law main periods b = record {
 
 -- what an in-time reading leaves of the delay is in time below
 onward_below : (d : ℕ) (below : Lefts) (u : ℕ) → 1 ≤ below [] → u < capped (below [] + d) → onward below (u - d) ≡ (λ vs. below ((u - d) ∷ vs))
-onward_below d below u some lt = ap (λ b. cond b (λ vs. below ((u - d) ∷ vs)) below) (lt-ltb (u - d) (below []) (omega arith))
+onward_below d below u some lt = ap (λ b. if b then (λ vs. below ((u - d) ∷ vs)) else below) (lt-ltb (u - d) (below []) (omega arith))
 
 delay_is : (d : ℕ) (below : Lefts) → InBounds below → (us : List ℕ) → after (delay d) below us [] ≡ below (spent_below d below us)
 delay_is d below h us =
@@ -77,3 +77,5 @@ delay_law d below h = record {
   left = λ us. ap (λ n. capped (n + d)) (delay_is d below h us);
   more = λ us. let is = delay_is d below h us in let top = h.most (spent_below d below us) in omega arith;
 }
+
+pub ruleset account_laws = (plain_law, fischer_law, bronstein_law, japanese_law, delay_law)

@@ -1,5 +1,5 @@
 -- Each clock's left is 1 to 1,000,000,000, for settings in range.
-use Rattle.std.proofs.Common.{ℕ, ◌+◌, ◌-◌, ◌*◌, ◌/◌, ◌<◌, ◌≤◌, min, ltb, List, [], mul-le-mul_right, div-lt_iff_lt-mul, mul-le-mul, arith, ltb-false}
+use Rattle.std.proofs.Common.{ℕ, ◌+◌, ◌-◌, ◌*◌, ◌/◌, ◌<◌, ◌≤◌, min, nat_lt, List, [], mul-le-mul_right, div-lt_iff_lt-mul, mul-le-mul, arith, ltb-false}
 use Rattle.std.proofs.lemmas.Bool.{cond_both}
 use Rattle.clocks_theory.specs.Movements.{Lefts, Movement, left_after, InBounds}
 use Rattle.clocks_theory.specs.Kinds.{capped, plain, plain_left, fischer, fischer_left, bronstein, bronstein_left, Byoyomi, japanese, japanese_left, delay, delay_left}
@@ -31,7 +31,7 @@ pub record Lowered (b : ℕ) (t s : Byoyomi) : Type 0 where
 
 pub japanese_lowers : (b : ℕ) (t : Byoyomi) (u : ℕ) → Lowered b t ((japanese b).next t u)
 japanese_lowers b t u =
-    cond_both (ltb u t.main) _ _ (Lowered b t)
+    cond_both (nat_lt u t.main) _ _ (Lowered b t)
     (λ e. record { left = omega arith; main = omega arith; periods = omega arith })
     (λ e. let less = mul-le-mul_right {m = t.periods - (u - t.main) / b} {n = t.periods} b (omega arith) in record { left = omega arith; main = omega arith; periods = omega arith })
 
@@ -41,7 +41,7 @@ periods_lost time periods b long lt = (div-lt_iff_lt-mul {k = b} {x = time} {y =
 
 japanese_goes_on : (b : ℕ) (t : Byoyomi) (u : ℕ) → 1 ≤ b → u < t.main + t.periods * b → 1 ≤ t.periods → 1 ≤ ((japanese b).next t u).periods
 japanese_goes_on b t u long lt some =
-    cond_both (ltb u t.main) _ _ (λ (s : Byoyomi). 1 ≤ s.periods)
+    cond_both (nat_lt u t.main) _ _ (λ (s : Byoyomi). 1 ≤ s.periods)
     (λ e. some)
     (λ e. let past = ltb-false u t.main e in let fewer = periods_lost (u - t.main) t.periods b long (omega arith) in omega arith)
 
@@ -55,7 +55,7 @@ japanese_bounds main periods b some long most =
 pub delay_bounds : (d : ℕ) (below : Lefts) → InBounds below → InBounds (delay_left d below)
 delay_bounds d below h =
     bounds (delay d) (λ (lefts : Lefts). (us : List ℕ) → 1 ≤ lefts us)
-    (λ lefts u lt some us. cond_both (ltb (u - d) (lefts [])) _ _ (λ (f : Lefts). 1 ≤ f us) (λ e. some _) (λ e. some us))
+    (λ lefts u lt some us. cond_both (nat_lt (u - d) (lefts [])) _ _ (λ (f : Lefts). 1 ≤ f us) (λ e. some _) (λ e. some us))
     (λ lefts some. let one = some [] in (omega arith, omega arith))
     below h.least
 

@@ -16,7 +16,7 @@
 --   is_main, is_extra    the ranges of a main time, and of an increment or delay
 --   setting_refusal      refusal 10 unless the settings are in range
 --   plain_refusal ..     the refusal of each clock's settings
-use Rattle.std.specs.Prelude.{ℕ, ◌+◌, ◌-◌, ◌*◌, ◌/◌, min, Bool, cond, ◌&&◌, [], Some, None, Option, nat_le, nat_lt}
+use Rattle.std.specs.Prelude.{ℕ, ◌+◌, ◌-◌, ◌*◌, ◌/◌, min, Bool, if◌then◌else◌, ◌&&◌, [], Some, None, Option, nat_le, nat_lt}
 use Rattle.side.specs.declared.PerSide.{PerSide}
 use Rattle.side.specs.TwoSides.{of_side}
 use Rattle.clock.specs.Times.{Times}
@@ -50,7 +50,7 @@ pub record Byoyomi : Type 0 where
 abbrev pub japanese : ℕ → Movement Byoyomi
 japanese length = record {
   left = λ t. t.main + t.periods * length;
-  next = λ t u. cond (nat_lt u t.main) (record { main = t.main - u; periods = t.periods }) (record { main = 0; periods = t.periods - (u - t.main) / length });
+  next = λ t u. if nat_lt u t.main then record { main = t.main - u; periods = t.periods } else record { main = 0; periods = t.periods - (u - t.main) / length };
 }
 
 abbrev pub japanese_left : ℕ → ℕ → ℕ → Lefts
@@ -76,7 +76,7 @@ abbrev pub is_extra : ℕ → Bool
 is_extra n = in_range 0 600000 n
 
 abbrev pub setting_refusal : Bool → Option ℕ
-setting_refusal fits = cond fits None (Some 10)
+setting_refusal fits = if fits then None else Some 10
 
 abbrev pub plain_refusal : ℕ → Option ℕ
 plain_refusal main = setting_refusal (is_main main)

@@ -8,13 +8,13 @@
 --   after       the state after a list of readings
 --   left_after  what is left then
 --   in_time     those of a list of readings that are in time
-use Rattle.std.specs.Prelude.{◌≡◌, ℕ, ◌≤◌, cond, List, [], ◌∷◌, ◌++◌, nat_lt}
+use Rattle.std.specs.Prelude.{◌≡◌, ℕ, ◌≤◌, if◌then◌else◌, List, [], ◌∷◌, ◌++◌, nat_lt}
 
 abbrev pub Lefts : Type 0
 Lefts = List ℕ → ℕ
 
 abbrev pub onward : Lefts → ℕ → Lefts
-onward lefts u = cond (nat_lt u (lefts [])) (λ us. lefts (u ∷ us)) lefts
+onward lefts u = if nat_lt u (lefts []) then (λ us. lefts (u ∷ us)) else lefts
 
 pub record InBounds (lefts : Lefts) : Type 0 where
   pub least : (us : List ℕ) → 1 ≤ lefts us
@@ -28,7 +28,7 @@ pub record Movement (S : Type 0) : Type 0 where
   pub next : S → ℕ → S
 
 abbrev pub stepped : {S : Type 0} → Movement S → S → ℕ → S
-stepped m s u = cond (nat_lt u (m.left s)) (m.next s u) s
+stepped m s u = if nat_lt u (m.left s) then m.next s u else s
 
 abbrev pub after : {S : Type 0} → Movement S → S → List ℕ → S
 after m s [] = s
@@ -39,4 +39,4 @@ left_after m s us = m.left (after m s us)
 
 abbrev pub in_time : {S : Type 0} → Movement S → S → List ℕ → List ℕ
 in_time m s [] = []
-in_time m s (u ∷ us) = cond (nat_lt u (m.left s)) (u ∷ in_time m (m.next s u) us) (in_time m s us)
+in_time m s (u ∷ us) = if nat_lt u (m.left s) then u ∷ in_time m (m.next s u) us else in_time m s us

@@ -5,15 +5,12 @@ ghost use Rattle.clocks_theory.specs.Laws.{Laws};
 ghost use Rattle.clocks_theory.specs.Samples.{Samples};
 
 // Sample readings, as facts about the definitions.
-pub fn samples() -> u8
+pub fn samples()
     ensures { Samples }
-{
-    0
-}
+{}
 
 // What is true of each clock over every list of readings.
-pub fn laws() -> u8
+#[tactic(auto, using(crate::proofs::Accounts::account_laws))]
+pub fn laws()
     ensures { Laws }
-{
-    0
-}
+{}

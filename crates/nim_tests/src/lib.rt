@@ -11,6 +11,7 @@ mod tests {
     use std::test::Fail;
 
     // A code, whether it is legal, and what holds after it: the status, which sides have a chance, the counters left.
+    // Chances are a pair, first's and second's: a `PerSide` at each step would be longer than the step.
     #[derive(Clone, Copy)]
     struct Step(u16, bool, Status, (bool, bool), usize);
 
@@ -37,10 +38,7 @@ mod tests {
     }
 
     fn allowed(heaps: &[u8], left: usize) -> bool {
-        match Nim::new(heaps) {
-            Ok(game) => game.counters_left() == left,
-            Err(_) => false,
-        }
+        Nim::new(heaps).is_ok_and(|game| game.counters_left() == left)
     }
 
     #[test]
@@ -55,9 +53,7 @@ mod tests {
 
     #[test]
     fn constants(rt: HostRuntime) {
-        assert!(rt;
-            (<Nim as Rules>::code_count() == 256) & (<Nim as Rules>::longest_game() == 248)
-        );
+        assert!(rt; (<Nim as Rules>::CODES == 256) & (<Nim as Rules>::LONGEST == 248));
     }
 
     // From heaps of 3 and 1 just these four codes are legal, of all 65,536.

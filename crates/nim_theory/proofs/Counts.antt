@@ -1,6 +1,6 @@
 -- What one code does to the counts of a position of Nim, and the laws from it.
-use Rattle.std.proofs.Common.{◌≡◌, ℕ, zero, suc, ◌+◌, ◌-◌, ◌*◌, ◌/◌, ◌%◌, ◌<◌, ◌≤◌, Bool, true, false, cond, ◌||◌, eqb, ltb, ◌⊎◌, List, [], ◌∷◌, length, get_or, set, Decides, sym, refl, ap, ◌∙◌, ap₂, inl, inr, arith}
-use Rattle.std.proofs.lemmas.Bool.{and_parts, and_from, leb-true, le-leb, lt-ltb, le-ltb, eq-eqb, ne_eqb, cases_Bool, cases_lt, cases_eq}
+use Rattle.std.proofs.Common.{◌≡◌, ℕ, zero, suc, ◌+◌, ◌-◌, ◌*◌, ◌/◌, ◌%◌, ◌<◌, ◌≤◌, true, false, if◌then◌else◌, nat_lt, ◌↔◌, IsTrue, List, [], ◌∷◌, length, set, sym, refl, ap, ◌∙◌, inl, inr, arith}
+use Rattle.std.proofs.lemmas.Bool.{and_parts, and_from, leb-true, le-leb, cases_Bool, cases_lt, cases_eq}
 use Rattle.std.proofs.lemmas.List.Sums.{sum_by-cons, sum_by-set}
 use Rattle.std.proofs.lemmas.List.{length-set, get_or_past}
 use Rattle.std.proofs.lemmas.Nat.{div-mul-add, mod-mul-add}
@@ -10,24 +10,19 @@ use Rattle.rules.specs.declared.Status.TheVariants.{Open, Won}
 use Rattle.side.specs.TwoSides.{opponent, same_side}
 use Rattle.rules.specs.Plans.{Winnable}
 use Rattle.rules.proofs.Sound.{Sound, Kept, exact}
-use Rattle.nim_theory.specs.Nim.{Position, at, counters, filled, fits, taken, status_of, by_parity, chance_of, nim, plan_at}
+use Rattle.nim_theory.specs.Nim.{Position, at, counters, filled, held, fits, taken, status_of, by_parity, chance_of, nim, plan_at}
 
 -- 1 where a heap holds something
 pub one : ℕ → ℕ
-one h = cond (ltb 0 h) 1 0
+one h = if nat_lt 0 h then 1 else 0
 
 one_some : (h : ℕ) → 0 < h → one h ≡ 1
 unfolding one
-one_some h l = ap (λ (b : Bool). cond b 1 0) (lt-ltb 0 h l)
-
-one_none : one 0 ≡ 0
-unfolding one
-one_none = refl
+one_some h l = grind arith
 
 one_le : (h : ℕ) → one h ≤ h
 unfolding one
-one_le zero = omega arith
-one_le (suc h) = let e : one (suc h) ≡ 1 = one_some (suc h) (omega arith) in omega arith
+one_le h = grind arith
 
 pub filled_le : (hs : List ℕ) → filled hs ≤ counters hs
 unfolding one
@@ -40,15 +35,15 @@ filled_le (h ∷ hs) =
     omega arith
 
 -- the counts after a heap is set
-counters_set : (hs : List ℕ) (i y : ℕ) → i < length hs → counters (set hs i y) + get_or hs i 0 ≡ counters hs + y
+counters_set : (hs : List ℕ) (i y : ℕ) → i < length hs → counters (set hs i y) + held hs i ≡ counters hs + y
 counters_set hs i y l = sum_by-set (λ x. x) hs i y 0 l
 
-filled_set : (hs : List ℕ) (i y : ℕ) → i < length hs → filled (set hs i y) + one (get_or hs i 0) ≡ filled hs + one y
+filled_set : (hs : List ℕ) (i y : ℕ) → i < length hs → filled (set hs i y) + one (held hs i) ≡ filled hs + one y
 unfolding one
-filled_set hs i y l = sum_by-set (λ x. cond (ltb 0 x) 1 0) hs i y 0 l
+filled_set hs i y l = sum_by-set (λ x. if nat_lt 0 x then 1 else 0) hs i y 0 l
 
 -- some heap has at least one, and some at least two where counters outnumber the heaps that hold some
-pub some_heap : (hs : List ℕ) → 0 < counters hs → (i : ℕ) × (i < length hs) × (0 < get_or hs i 0)
+pub some_heap : (hs : List ℕ) → 0 < counters hs → (i : ℕ) × (i < length hs) × (0 < held hs i)
 some_heap [] h = absurd (omega arith)
 some_heap (zero ∷ hs) h =
     let b : counters (0 ∷ hs) ≡ 0 + counters hs = sum_by-cons _ 0 hs in
@@ -58,10 +53,9 @@ some_heap (suc x ∷ hs) h = (0, omega arith, omega arith)
 
 one_small : (h : ℕ) → h ≤ 1 → one h ≡ h
 unfolding one
-one_small zero l = refl
-one_small (suc h) l = one_some (suc h) (omega arith) ∙ (omega arith)
+one_small h l = grind arith
 
-two_heap : (hs : List ℕ) → filled hs < counters hs → (i : ℕ) × (i < length hs) × (1 < get_or hs i 0)
+two_heap : (hs : List ℕ) → filled hs < counters hs → (i : ℕ) × (i < length hs) × (1 < held hs i)
 unfolding one
 two_heap [] h = absurd (omega arith)
 two_heap (x ∷ hs) h =
@@ -77,14 +71,14 @@ two_heap (x ∷ hs) h =
 -- a code that fits
 pub record Fit (hs : List ℕ) (c : ℕ) : Type 0 where
   pub some : 0 < c % 32
-  pub held : c % 32 ≤ get_or hs (c / 32) 0
+  pub held : c % 32 ≤ held hs (c / 32)
   pub inside : c / 32 < length hs
 
 pub fit : (hs : List ℕ) (c : ℕ) → fits hs c ≡ true → Fit hs c
 fit hs c h =
     let p = and_parts _ _ h in
     let a = leb-true 1 (c % 32) p.0 in
-    let b = leb-true (c % 32) (get_or hs (c / 32) 0) p.1 in
+    let b = leb-true (c % 32) (held hs (c / 32)) p.1 in
     let l : c / 32 < length hs =
     elim (cases_lt (c / 32) (length hs)) [ inl l ↦ l | inr l ↦ let e = get_or_past hs (c / 32) 0 l in absurd (omega arith) ] in
     record { some = a; held = b; inside = l }
@@ -92,7 +86,7 @@ fit hs c h =
 -- what a code that fits does to the counts
 pub record Change (hs : List ℕ) (c : ℕ) : Type 0 where
   pub fewer : counters (taken hs c) + c % 32 ≡ counters hs
-  pub heaps : filled (taken hs c) + 1 ≡ filled hs + one (get_or hs (c / 32) 0 - c % 32)
+  pub heaps : filled (taken hs c) + 1 ≡ filled hs + one (held hs (c / 32) - c % 32)
   pub room : filled (taken hs c) ≤ counters (taken hs c)
 
 pub change : (hs : List ℕ) (c : ℕ) → Fit hs c → Change hs c
@@ -100,43 +94,26 @@ change hs c f =
     let i = f.inside in
     let k = f.held in
     let z = f.some in
-    let a = counters_set hs (c / 32) (get_or hs (c / 32) 0 - c % 32) i in
-    let b = filled_set hs (c / 32) (get_or hs (c / 32) 0 - c % 32) i in
-    let o = one_some (get_or hs (c / 32) 0) (omega arith) in
+    let a = counters_set hs (c / 32) (held hs (c / 32) - c % 32) i in
+    let b = filled_set hs (c / 32) (held hs (c / 32) - c % 32) i in
+    let o = one_some (held hs (c / 32)) (omega arith) in
     record { fewer = omega arith; heaps = omega arith; room = filled_le (taken hs c) }
 
 -- the code that takes t from heap i
-pub code_fits : (hs : List ℕ) (i t : ℕ) → t < 32 → 0 < t → t ≤ get_or hs i 0 → fits hs (i * 32 + t) ≡ true
+pub code_fits : (hs : List ℕ) (i t : ℕ) → t < 32 → 0 < t → t ≤ held hs i → fits hs (i * 32 + t) ≡ true
 code_fits hs i t l z h =
     let d = div-mul-add i 32 t l in
     let m = mod-mul-add i 32 t l in
     and_from _ _ (le-leb 1 ((i * 32 + t) % 32) (omega arith))
-    (rw (d, m) (le-leb t (get_or hs i 0) h))
-
-odd_step : (n : ℕ) → ((eqb (suc n % 2) 1 ≡ true) × (eqb (n % 2) 1 ≡ false)) ⊎ ((eqb (suc n % 2) 1 ≡ false) × (eqb (n % 2) 1 ≡ true))
-odd_step n =
-    elim (cases_eq (n % 2) 1) [
-      | inl e ↦ inr (ne_eqb (suc n % 2) 1 (λ d. omega arith), eq-eqb (n % 2) 1 e)
-      | inr e ↦ inl (eq-eqb (suc n % 2) 1 (omega arith), ne_eqb (n % 2) 1 e)
-    ]
-
-twice : (t : Side) → opponent (opponent t) ≡ t
-twice First = refl
-twice Second = refl
+    (rw (d, m) (le-leb t (held hs i) h))
 
 parity_step : (n : ℕ) (t : Side) → by_parity (suc n) t ≡ by_parity n (opponent t)
-parity_step n t =
-    elim (odd_step n) [
-      | inl e ↦ ap (λ (b : Bool). cond b t (opponent t)) e.0 ∙ sym (ap (λ (b : Bool). cond b (opponent t) (opponent (opponent t))) e.1 ∙ twice t)
-      | inr e ↦ ap (λ (b : Bool). cond b t (opponent t)) e.0 ∙ sym (ap (λ (b : Bool). cond b (opponent t) (opponent (opponent t))) e.1)
-    ]
+parity_step n First = grind arith
+parity_step n Second = grind arith
 
 parity_other : (n : ℕ) (t : Side) → by_parity (suc n) t ≡ opponent (by_parity n t)
-parity_other n t =
-    elim (odd_step n) [
-      | inl e ↦ ap (λ (b : Bool). cond b t (opponent t)) e.0 ∙ sym (ap (λ (b : Bool). opponent (cond b t (opponent t))) e.1 ∙ twice t)
-      | inr e ↦ ap (λ (b : Bool). cond b t (opponent t)) e.0 ∙ sym (ap (λ (b : Bool). opponent (cond b t (opponent t))) e.1)
-    ]
+parity_other n First = grind arith
+parity_other n Second = grind arith
 
 pub same_self : (s : Side) → same_side s s ≡ true
 same_self First = refl
@@ -149,12 +126,10 @@ same_other Second First e = sym e
 same_other Second Second e = refl
 
 pub chance_more : (hs : List ℕ) (t s : Side) → filled hs < counters hs → chance_of hs t s ≡ true
-chance_more hs t s l = ap (λ (b : Bool). b || same_side (by_parity (filled hs) t) s) (lt-ltb (filled hs) (counters hs) l)
+chance_more hs t s l = grind arith
 
 pub chance_even : (hs : List ℕ) (t s : Side) (n : ℕ) → filled hs ≡ n → counters hs ≤ n → chance_of hs t s ≡ same_side (by_parity n t) s
-chance_even hs t s n e l =
-    ap (λ (b : Bool). b || same_side (by_parity (filled hs) t) s) (le-ltb (filled hs) (counters hs) (omega arith))
-    ∙ ap (λ (k : ℕ). same_side (by_parity k t) s) e
+chance_even hs t s n e l = grind arith
 
 -- ---- the facts of single positions
 
@@ -162,19 +137,13 @@ unfoldable pub Good : Position → ℕ → Type 0
 Good p n = (length p.heaps ≤ 8) × (counters p.heaps ≤ n)
 
 open_some : (hs : List ℕ) (t : Side) → status_of hs t ≡ Open → 0 < counters hs
-open_some hs t e =
-    elim (cases_eq (counters hs) 0) [
-      | inl z ↦
-          let f : status_of hs t ≡ Won (opponent t) = ap (λ (b : Bool). cond b (Won (opponent t)) Open) (eq-eqb (counters hs) 0 z) in
-          let bad : ◌≡◌ {A = ℕ} 0 1 = cc in absurd (omega arith)
-      | inr z ↦ omega arith
-    ]
+open_some hs t e = grind arith
 
 pub some_open : (hs : List ℕ) (t : Side) → 0 < counters hs → status_of hs t ≡ Open
-some_open hs t l = ap (λ (b : Bool). cond b (Won (opponent t)) Open) (ne_eqb (counters hs) 0 (λ z. omega arith))
+some_open hs t l = grind arith
 
 none_won : (hs : List ℕ) (t : Side) → counters hs ≡ 0 → status_of hs t ≡ Won (opponent t)
-none_won hs t z = ap (λ (b : Bool). cond b (Won (opponent t)) Open) (eq-eqb (counters hs) 0 z)
+none_won hs t z = grind arith
 
 won_none : (hs : List ℕ) (t s : Side) → status_of hs t ≡ Won s → (counters hs ≡ 0) × (opponent t ≡ s)
 won_none hs t s e =
@@ -182,7 +151,7 @@ won_none hs t s e =
       | inl z ↦ let f = none_won hs t z in (z, cc)
       | inr z ↦
           let f = some_open hs t (omega arith) in
-          let bad : ◌≡◌ {A = ℕ} 0 1 = cc in absurd (omega arith)
+          cc
     ]
 
 won_chance : (hs : List ℕ) (t s : Side) → status_of hs t ≡ Won s → chance_of hs t s ≡ true
@@ -194,8 +163,8 @@ won_chance hs t s e =
 
 same_is : (a b : Side) → same_side a b ≡ true → a ≡ b
 same_is First First e = refl
-same_is First Second e = let bad : ◌≡◌ {A = ℕ} 0 1 = cc in absurd (omega arith)
-same_is Second First e = let bad : ◌≡◌ {A = ℕ} 0 1 = cc in absurd (omega arith)
+same_is First Second e = cc
+same_is Second First e = cc
 same_is Second Second e = refl
 
 even_won : (hs : List ℕ) (t s : Side) → counters hs ≡ 0 → chance_of hs t s ≡ true → status_of hs t ≡ Won s
@@ -219,7 +188,7 @@ even_step hs t s c f l =
 fade : (hs : List ℕ) (t s : Side) (c : ℕ) → fits hs c ≡ true → chance_of hs t s ≡ false → chance_of (taken hs c) (opponent t) s ≡ false
 fade hs t s c h e =
     elim (cases_lt (filled hs) (counters hs)) [
-      | inl l ↦ let f = chance_more hs t s l in let bad : ◌≡◌ {A = ℕ} 0 1 = cc in absurd (omega arith)
+      | inl l ↦ let f = chance_more hs t s l in cc
       | inr l ↦ even_step hs t s c (fit hs c h) l ∙ e
     ]
 
@@ -259,18 +228,18 @@ keep_even hs t s z l e =
     (r.0 * 32 + 1, h, even_step hs t s (r.0 * 32 + 1) (fit hs (r.0 * 32 + 1) h) l ∙ e)
 
 -- at a heap of two or more
-keep_more : (hs : List ℕ) (t s : Side) (i : ℕ) → i < length hs → 1 < get_or hs i 0 → Keeps hs t s
+keep_more : (hs : List ℕ) (t s : Side) (i : ℕ) → i < length hs → 1 < held hs i → Keeps hs t s
 unfolding Keeps
 keep_more hs t s i l h =
-    let x = get_or hs i 0 in
+    let x = held hs i in
     let d1 = div-mul-add i 32 1 (omega arith) in
     let m1 = mod-mul-add i 32 1 (omega arith) in
     let f1 = code_fits hs i 1 (omega arith) (omega arith) (omega arith) in
     let k1 = change hs (i * 32 + 1) (fit hs (i * 32 + 1) f1) in
     let a1 = k1.fewer in
     let b1 = k1.heaps in
-    let e1 : get_or hs ((i * 32 + 1) / 32) 0 ≡ x = ap (λ (j : ℕ). get_or hs j 0) d1 in
-    let o1 : one (get_or hs ((i * 32 + 1) / 32) 0 - (i * 32 + 1) % 32) ≡ 1 = one_some (get_or hs ((i * 32 + 1) / 32) 0 - (i * 32 + 1) % 32) (omega arith) in
+    let e1 : held hs ((i * 32 + 1) / 32) ≡ x = ap (λ (j : ℕ). held hs j) d1 in
+    let o1 : one (held hs ((i * 32 + 1) / 32) - (i * 32 + 1) % 32) ≡ 1 = one_some (held hs ((i * 32 + 1) / 32) - (i * 32 + 1) % 32) (omega arith) in
     elim (cases_lt (filled (taken hs (i * 32 + 1))) (counters (taken hs (i * 32 + 1)))) [
       | inl q ↦ (i * 32 + 1, f1, chance_more (taken hs (i * 32 + 1)) (opponent t) s q)
       | inr q ↦
@@ -284,8 +253,8 @@ keep_more hs t s i l h =
                 let a2 = k2.fewer in
                 let b2 = k2.heaps in
                 let r2 = k2.room in
-                let e2 : get_or hs ((i * 32 + 2) / 32) 0 ≡ x = ap (λ (j : ℕ). get_or hs j 0) d2 in
-                let o2 = one_le (get_or hs ((i * 32 + 2) / 32) 0 - (i * 32 + 2) % 32) in
+                let e2 : held hs ((i * 32 + 2) / 32) ≡ x = ap (λ (j : ℕ). held hs j) d2 in
+                let o2 = one_le (held hs ((i * 32 + 2) / 32) - (i * 32 + 2) % 32) in
                 let n1 = sym (chance_even (taken hs (i * 32 + 1)) (opponent t) s (suc (filled (taken hs (i * 32 + 2)))) (omega arith) (omega arith)) ∙ n in
                 let n2 = ap (λ (y : Side). same_side y s) (sym (parity_other (filled (taken hs (i * 32 + 2))) (opponent t))) ∙ n1 in (
                   i * 32 + 2,
@@ -308,18 +277,6 @@ kept p n s g e =
           ]
     ]
 
-pub chance_exact : (hs : List ℕ) (t s : Side) → length hs ≡ 8 → Decides (chance_of hs t s) (Winnable (plan_at hs t) s)
+pub chance_exact : (hs : List ℕ) (t s : Side) → length hs ≡ 8 → IsTrue (chance_of hs t s) ↔ Winnable (plan_at hs t) s
 unfolding Good
 chance_exact hs t s l = exact nim Good 256 sound kept (at hs t) (counters hs) s (omega arith, omega arith)
-
--- the chance as the code computes it
-pub chance_is : (hs : List ℕ) (t s : Side) (n k : ℕ) → n ≡ filled hs → k ≡ counters hs → (ltb n k || same_side (by_parity n t) s) ≡ chance_of hs t s
-chance_is hs t s n k f l = ap₂ (λ (a b : ℕ). ltb a b || same_side (by_parity a t) s) f l
-
--- a code whose heap is not there
-pub not_fits : (hs : List ℕ) (c : ℕ) → length hs ≤ c / 32 → fits hs c ≡ false
-not_fits hs c l =
-    elim (cases_Bool (fits hs c)) [
-      | inl e ↦ let i = (fit hs c e).inside in absurd (omega arith)
-      | inr e ↦ e
-    ]

@@ -1,8 +1,9 @@
 -- The start of a game: heaps that are not there may stand as empty ones, and counters are taken, never lost.
-use Rattle.std.proofs.Common.{◌≡◌, ℕ, zero, suc, ◌+◌, ◌-◌, ◌*◌, ◌/◌, ◌%◌, ◌<◌, ◌≤◌, Bool, true, cond, ◌&&◌, ltb, leb, List, [], ◌∷◌, ◌++◌, length, set, replicate, sum_by, refl, ap, ◌∙◌, ap₂, arith}
+use Rattle.std.proofs.Common.{◌≡◌, ℕ, zero, suc, ◌+◌, ◌-◌, ◌*◌, ◌/◌, ◌%◌, ◌<◌, ◌≤◌, Bool, true, if◌then◌else◌, ◌&&◌, nat_lt, nat_le, List, [], ◌∷◌, ◌++◌, length, set, replicate, sym, refl, ap, ◌∙◌, ap₂, arith}
 use mathlib.Core.Path.{fun_ext}
 use Rattle.std.proofs.lemmas.Bool.{and_parts, and_from, leb-true}
 use Rattle.std.proofs.lemmas.List.Sums.{sum_by-cons, sum_by-append}
+use Rattle.std.proofs.lemmas.List.Folds.{sum_by-replicate}
 use Rattle.std.proofs.lemmas.List.{length-append, length-replicate}
 use Rattle.std.proofs.lemmas.Nat.{mod-mul-add}
 use Rattle.side.specs.declared.Side.{Side}
@@ -18,17 +19,13 @@ use Rattle.nim_theory.proofs.Counts.{Good, sound, kept, some_open, some_heap, co
 abbrev pub padded : List ℕ → ℕ → List ℕ
 padded hs n = hs ++ replicate n 0
 
-zeros : (f : ℕ → ℕ) → f 0 ≡ 0 → (n : ℕ) → sum_by f (replicate n 0) ≡ 0
-zeros f z zero = refl
-zeros f z (suc n) = let e = sum_by-cons f 0 (replicate n 0) in let i = zeros f z n in omega arith
-
 pub counters_padded : (hs : List ℕ) (n : ℕ) → counters (padded hs n) ≡ counters hs
-counters_padded hs n = let a = sum_by-append (λ x. x) hs (replicate n 0) in let z = zeros (λ x. x) refl n in omega arith
+counters_padded hs n = let a = sum_by-append (λ x. x) hs (replicate n 0) in let z = sum_by-replicate (λ x. x) n 0 in omega arith
 
 filled_padded : (hs : List ℕ) (n : ℕ) → filled (padded hs n) ≡ filled hs
 filled_padded hs n =
-    let f : ℕ → ℕ = λ h. cond (ltb 0 h) 1 0 in
-    let a = sum_by-append f hs (replicate n 0) in let z = zeros f refl n in omega arith
+    let f : ℕ → ℕ = λ h. if nat_lt 0 h then 1 else 0 in
+    let a = sum_by-append f hs (replicate n 0) in let z = sum_by-replicate f n 0 in omega arith
 
 held_none : (n i : ℕ) → held (replicate n 0) i ≡ 0
 held_none zero i = refl
@@ -55,7 +52,7 @@ same_legal : (hs : List ℕ) (n : ℕ) (t : Side) (w : List ℕ) → (plan_at (p
 same_legal hs n t [] = refl
 same_legal hs n t (c ∷ w) =
     ap₂ (λ (a b : Bool). a && b)
-    (ap (λ (k : ℕ). leb 1 (take_of c) && leb (take_of c) k) (held_padded hs n (c / 32)))
+    (ap (λ (k : ℕ). nat_le 1 (take_of c) && nat_le (take_of c) k) (held_padded hs n (c / 32)))
     (ap (λ (gs : List ℕ). (plan_at gs (opponent t)).legal w) (less_padded hs n (c / 32) (c % 32)) ∙ same_legal (taken hs c) n (opponent t) w)
 
 same_after : (hs : List ℕ) (n : ℕ) (t : Side) (w : List ℕ)
@@ -139,9 +136,9 @@ drained (suc n) hs t e =
     let l = i.2 in
     (c ∷ i.0, and_from (fits hs c) ((plan_at (taken hs c) (opponent t)).legal i.0) h i.1, omega arith)
 
-pub most_codes : (hs : List ℕ) (t : Side) → MostCodes (plan_at hs t) (counters hs)
-most_codes hs t = record {
-  some = drained (counters hs) hs t refl;
+pub most_codes : (hs : List ℕ) (t : Side) (n : ℕ) → n ≡ counters hs → MostCodes (plan_at hs t) n
+most_codes hs t n e = record {
+  some = drained n hs t (sym e);
   most = λ w h. let a = conserved hs t w h in let b = each_takes hs t w h in omega arith;
 }
 

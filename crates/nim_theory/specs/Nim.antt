@@ -22,7 +22,8 @@
 --   Made         what is promised of a game newly made from some heaps
 --   OnTheWay     some legal codes lead from the starting heaps to a position
 --   Counted      some legal codes lead there, and what is left and what any such took are what there was
-use Rattle.std.specs.Prelude.{◌≡◌, ℕ, ◌+◌, ◌-◌, ◌/◌, ◌%◌, ◌≤◌, Bool, true, cond, ◌&&◌, ◌||◌, List, [], ◌∷◌, length, Some, None, sum_by, sum, count_by, Option, ◌==◌, nat_le, nat_lt, slice_index, slice_set}
+use Rattle.std.specs.Prelude.{◌≡◌, ℕ, ◌+◌, ◌-◌, ◌/◌, ◌%◌, ◌≤◌, Bool, true, if◌then◌else◌, ◌&&◌, ◌||◌, List, length, Some, None, sum_by, sum, count_by, Option, ◌==◌, nat_le, nat_lt, slice_index, slice_set}
+use Rattle.std.specs.List.{list_all}
 use Rattle.side.specs.declared.Side.{Side}
 use Rattle.side.specs.declared.Side.TheVariants.{First}
 use Rattle.side.specs.TwoSides.{opponent, same_side}
@@ -60,10 +61,10 @@ abbrev pub taken : List ℕ → ℕ → List ℕ
 taken hs c = slice_set hs (heap_of c) (held hs (heap_of c) - take_of c)
 
 abbrev pub status_of : List ℕ → Side → Status
-status_of hs t = cond (counters hs == 0) (Won (opponent t)) Open
+status_of hs t = if counters hs == 0 then Won (opponent t) else Open
 
 abbrev pub by_parity : ℕ → Side → Side
-by_parity n t = cond (n % 2 == 1) t (opponent t)
+by_parity n t = if n % 2 == 1 then t else opponent t
 
 abbrev pub chance_of : List ℕ → Side → Side → Bool
 chance_of hs t s = nat_lt (filled hs) (counters hs) || same_side (by_parity (filled hs) t) s
@@ -89,14 +90,13 @@ abbrev pub allowed_size : ℕ → Bool
 allowed_size h = nat_le 1 h && nat_le h 31
 
 abbrev pub sizes : List ℕ → Bool
-sizes [] = true
-sizes (h ∷ hs) = allowed_size h && sizes hs
+sizes = list_all allowed_size
 
 abbrev pub allowed : List ℕ → Bool
 allowed hs = allowed_count (length hs) && sizes hs
 
 abbrev pub refusal_of : List ℕ → Option ℕ
-refusal_of hs = cond (allowed hs) None (Some 10)
+refusal_of hs = if allowed hs then None else Some 10
 
 abbrev pub takes : List ℕ → ℕ
 takes w = sum_by take_of w

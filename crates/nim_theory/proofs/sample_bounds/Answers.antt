@@ -4,4 +4,4 @@ use Rattle.nim_theory.proofs.Start.{most_codes}
 use Rattle.nim_theory.proofs.sample_bounds.Goals as goal
 
 pub returns : goal.returns
-returns c = record { highest_code = refl; longest_game = (most_codes (replicate 8 31) First).some }
+returns c = record { highest_code = refl; longest_game = (most_codes (replicate 8 31) First 248 refl).some }
