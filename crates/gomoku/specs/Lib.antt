@@ -1,5 +1,1 @@
-pub mod Gomoku
-pub mod Search
-pub mod Moves
-pub mod Tests
-pub mod Lines
+pub mod Sought

@@ -2,227 +2,138 @@
 #![tactic(auto)]
 
 ghost use Rattle.std.specs.Prelude.{◌≡◌, ◌<◌, false, [], length};
+ghost use Rattle.std.specs.List.{list_all, range_with_len};
 ghost use Rattle.side.specs.declared.Side.TheVariants.{First};
 ghost use Rattle.rules.specs.Machine.{OnWay};
 ghost use Rattle.rules.specs.Plans.{NoWin};
-ghost use Rattle.board.specs.Windows.{every};
-ghost use Rattle.gomoku.specs.Gomoku.{gomoku, gomoku_from, at, start, empty, lines, is_free, code_of, stones_on, status_of, chance_of, fits, shown, Counted, OneWinner, MadeBy, ShownBy};
-ghost use Rattle.gomoku.specs.Search.{columns_of, rows_of, cell_at, window, meets, seen, column_has, board_has, begin, begin_of, through, won_at, judged_by};
-ghost use Rattle.gomoku.specs.Moves.{laws};
+ghost use Rattle.board.specs.Windows.{in_line};
+ghost use Rattle.gomoku_theory.specs.Gomoku.{gomoku, gomoku_from, at, start, empty, lines, stones_on, status_of, fits, shown, Counted, OneWinner, MadeBy, ShownBy};
+ghost use Rattle.gomoku_theory.specs.Search.{cell_at, columns_of, column_has, board_has, through, won_at, judged_by};
+ghost use Rattle.gomoku.specs.Sought.{admits, seen};
+ghost use Rattle.gomoku.specs.declared.Sought.TheVariants.{Line};
+ghost use Rattle.gomoku_theory.proofs.Moves.{laws};
 ghost use Rattle.rules.proofs.Sound.{point_of};
 
+mod windows;
+
+use crate::windows::Window;
+pub use gomoku_theory::Point;
+use gomoku_theory::{Heading, SIZE};
 use rules::{Rules, Status};
 use side::Side;
 
-// columns of the board, and its rows
-const SIZE: usize = 15;
+const POINTS: usize = SIZE * SIZE;
 
-const POINTS: usize = 225;
-
-// along a row, five points begin at one of so many
-const BEGINS: usize = 11;
-
-#[derive(Clone, Copy, PartialEq, Eq, Debug)]
-pub enum Point {
-    Free,
-    Stone(Side),
-}
-
-// How a line runs: along a column, along a row, or aslant.
-#[derive(Clone, Copy)]
-enum Heading {
-    Upright,
-    Level,
-    Rising,
-    Falling,
-}
+const HEADINGS: [Heading; 4] = [
+    Heading::Upright,
+    Heading::Level,
+    Heading::Rising,
+    Heading::Falling,
+];
 
 #[derive(Clone, Copy)]
 pub struct Gomoku {
-    points: [Point; 225],
+    points: [Point; POINTS],
     turn: Side,
     stones: u8,
     status: Status,
-    ghost whole: { length points ≡ 225 },
     ghost counted: { stones ≡ stones_on points },
     ghost judged: { status ≡ status_of points },
     ghost way: { OnWay gomoku start (at points turn) },
 }
 
-impl Heading {
-    fn columns(self) -> usize
-        ensures { result ≡ columns_of self }
+// What is looked for in a window: five stones of a side, or no stone of the other side.
+#[derive(Clone, Copy)]
+enum Sought {
+    Line(Side),
+    Room(Side),
+}
+
+impl Sought {
+    fn admits(self, point: Point) -> bool
+        ensures { result ≡ admits self point }
     {
         match self {
-            Heading::Upright => SIZE,
-            Heading::Level | Heading::Rising | Heading::Falling => BEGINS,
+            Sought::Line(side) => point == Point::Stone(side),
+            Sought::Room(side) => point != Point::Stone(side.other()),
         }
     }
 
-    fn rows(self) -> usize
-        ensures { result ≡ rows_of self }
+    // Whether each point of a window is admitted. Not inlined, it makes a search of the whole board take twice the time.
+    #[inline(always)]
+    fn fits(self, points: &[Point; POINTS], window: Window) -> bool
+        ensures { result ≡ list_all (λ j. seen points.now self (cell_at window.heading window.column window.row j)) (range_with_len 0 5) }
     {
-        match self {
-            Heading::Level => SIZE,
-            Heading::Upright | Heading::Rising | Heading::Falling => BEGINS,
-        }
+        (0..5).all(|j| self.admits(points[window.place(j)]))
     }
 
-    // The place of the j-th point of the window whose lowest column and row these are.
-    fn place(self, column: usize, row: usize, j: usize) -> usize
-        requires { (column < columns_of self) × ((row < rows_of self) × (j < 5)) }
-        ensures value { result ≡ code_of (cell_at self column row j) }
-        ensures inside { result < 225 }
+    // Whether some window of a heading fits that has this as its lowest column.
+    fn fits_column(self, points: &[Point; POINTS], heading: Heading, column: usize) -> bool
+        requires { column < columns_of heading }
+        ensures { result ≡ column_has (seen points.now self) heading column }
     {
-        match self {
-            Heading::Upright => SIZE * (row + j) + column,
-            Heading::Level => SIZE * row + (column + j),
-            Heading::Rising => SIZE * (row + j) + (column + j),
-            Heading::Falling => SIZE * (row + 4 - j) + (column + j),
-        }
+        (0..heading.rows()).any(|row| self.fits(points, Window::new(heading, column, row)))
     }
 
-    // The lowest column and row of the window that has a point as its j-th, if it lies on the board.
-    fn begin_of(self, column: usize, row: usize, j: usize) -> Option<(usize, usize)>
-        requires { j < 5 }
-        ensures { result ≡ begin_of self column row j }
+    // Whether some window of a heading fits.
+    #[tactic(auto, unfolding(gomoku_theory::specs::Search::board_has))]
+    fn fits_heading(self, points: &[Point; POINTS], heading: Heading) -> bool
+        ensures { result ≡ board_has (seen points.now self) heading }
     {
-        match self {
-            Heading::Upright => Some((column, begin_at(row, j)?)),
-            Heading::Level => Some((begin_at(column, j)?, row)),
-            Heading::Rising => Some((begin_at(column, j)?, begin_at(row, j)?)),
-            Heading::Falling => Some((begin_at(column, j)?, begin_at(row, 4 - j)?)),
-        }
+        (0..heading.columns()).any(|column| self.fits_column(points, heading, column))
     }
-}
 
-// Where five numbers in a row begin that have x as their j-th, if all are inside the board.
-fn begin_at(x: usize, j: usize) -> Option<usize>
-    ensures { result ≡ begin x j }
-{
-    if j <= x && x - j < BEGINS {
-        Some(x - j)
-    } else {
-        None
-    }
-}
-
-impl Point {
-    // Whether it has the side's stone, or is free where gaps count.
-    fn counts_for(self, side: Side, gaps: bool) -> bool
-        ensures { result ≡ meets self side gaps }
+    // Whether some window of the board fits.
+    #[tactic(auto, using(gomoku_theory::proofs::Lines::line_by))]
+    fn fits_board(self, points: &[Point; POINTS]) -> bool
+        ensures { result ≡ in_line lines (seen points.now self) }
     {
-        match self {
-            Point::Free => gaps,
-            Point::Stone(owner) => owner == side,
-        }
+        HEADINGS
+            .iter()
+            .any(|heading| self.fits_heading(points, *heading))
     }
 
-    fn is_open(self) -> bool
-        ensures { result ≡ is_free self }
+    // Whether some window of a heading fits that has a point.
+    #[tactic(auto, unfolding(gomoku_theory::specs::Search::through))]
+    fn fits_through(
+        self,
+        points: &[Point; POINTS],
+        heading: Heading,
+        column: usize,
+        row: usize,
+    ) -> bool
+        requires { (column < 15) × (row < 15) }
+        ensures { result ≡ through (seen points.now self) heading column row }
     {
-        match self {
-            Point::Free => true,
-            Point::Stone(_) => false,
-        }
+        (0..5).any(|j| {
+            Window::through(heading, column, row, j).is_some_and(|window| self.fits(points, window))
+        })
     }
-}
 
-// Whether each point of a window counts for the side.
-fn window_counts(
-    points: &[Point],
-    side: Side,
-    gaps: bool,
-    heading: Heading,
-    column: usize,
-    row: usize,
-) -> bool
-    requires { (length points.now ≡ 225) × ((column < columns_of heading) × (row < rows_of heading)) }
-    ensures { result ≡ every (seen points.now side gaps) (window heading column row) }
-{
-    for j in 0..5usize {
-        if !points[heading.place(column, row, j)].counts_for(side, gaps) {
-            return false;
-        }
+    // Whether some window fits that has the point of a place: 20 windows at most are looked at.
+    // By name: a loop over `HEADINGS` makes a move take twice the time, and no form may make one slower.
+    #[tactic(auto, unfolding(gomoku_theory::specs::Search::won_at))]
+    fn fits_at(self, points: &[Point; POINTS], place: usize) -> bool
+        requires { place < 225 }
+        ensures { result ≡ won_at (seen points.now self) place }
+    {
+        let column = place % SIZE;
+        let row = place / SIZE;
+        self.fits_through(points, Heading::Upright, column, row)
+            || self.fits_through(points, Heading::Level, column, row)
+            || self.fits_through(points, Heading::Rising, column, row)
+            || self.fits_through(points, Heading::Falling, column, row)
     }
-    true
-}
-
-// Whether some window of a heading counts that has this as its lowest column.
-fn column_counts(points: &[Point], side: Side, gaps: bool, heading: Heading, column: usize) -> bool
-    requires { (length points.now ≡ 225) × (column < columns_of heading) }
-    ensures { result ≡ column_has (seen points.now side gaps) heading column (rows_of heading) }
-{
-    let rows = heading.rows();
-    for row in 0..rows {
-        if window_counts(points, side, gaps, heading, column, row) {
-            return true;
-        }
-    }
-    false
-}
-
-// Whether some window of a heading counts.
-fn heading_counts(points: &[Point], side: Side, gaps: bool, heading: Heading) -> bool
-    requires { length points.now ≡ 225 }
-    ensures { result ≡ board_has (seen points.now side gaps) heading (columns_of heading) }
-{
-    let columns = heading.columns();
-    for column in 0..columns {
-        if column_counts(points, side, gaps, heading, column) {
-            return true;
-        }
-    }
-    false
-}
-
-// Whether some window of the board holds no stone of the other side.
-fn has_room(points: &[Point], side: Side) -> bool
-    requires { length points.now ≡ 225 }
-    ensures { result ≡ chance_of points.now side }
-{
-    heading_counts(points, side, true, Heading::Upright)
-        || (heading_counts(points, side, true, Heading::Level)
-            || (heading_counts(points, side, true, Heading::Rising)
-                || heading_counts(points, side, true, Heading::Falling)))
-}
-
-// Whether a window of a heading through a point is all the side's.
-fn wins_along(points: &[Point], side: Side, heading: Heading, column: usize, row: usize) -> bool
-    requires { (length points.now ≡ 225) × ((column < 15) × (row < 15)) }
-    ensures { result ≡ through (seen points.now side false) heading column row 5 }
-{
-    for j in 0..5usize {
-        if let Some((from_column, from_row)) = heading.begin_of(column, row, j) {
-            if window_counts(points, side, false, heading, from_column, from_row) {
-                return true;
-            }
-        }
-    }
-    false
-}
-
-// Whether a window through a place is all the side's: 20 windows at most are looked at.
-fn wins_at(points: &[Point], side: Side, place: usize) -> bool
-    requires { (length points.now ≡ 225) × (place < 225) }
-    ensures { result ≡ won_at (seen points.now side false) place }
-{
-    let column = place % SIZE;
-    let row = place / SIZE;
-    wins_along(points, side, Heading::Upright, column, row)
-        || (wins_along(points, side, Heading::Level, column, row)
-            || (wins_along(points, side, Heading::Rising, column, row)
-                || wins_along(points, side, Heading::Falling, column, row)))
 }
 
 // The status once a side has put a stone on a place of an open game: no other line can be new.
-fn judge(points: &[Point], side: Side, place: usize, stones: u8) -> Status
-    requires { (length points.now ≡ 225) × (place < 225) }
-    ensures { result ≡ judged_by (won_at (seen points.now side false) place) stones side }
+fn judge(points: &[Point; POINTS], side: Side, place: usize, stones: u8) -> Status
+    requires { place < 225 }
+    ensures { result ≡ judged_by (won_at (seen points.now (Line side)) place) stones side }
 {
-    if wins_at(points, side, place) {
+    if Sought::Line(side).fits_at(points, place) {
         Status::Won(side)
-    } else if stones as usize == POINTS {
+    } else if usize::from(stones) == POINTS {
         Status::Drawn
     } else {
         Status::Open
@@ -237,7 +148,7 @@ impl Gomoku {
         ensures one_winner { OneWinner }
     {
         Gomoku {
-            points: [Point::Free; 225],
+            points: [Point::Free; POINTS],
             turn: Side::First,
             stones: 0,
             status: Status::Open,
@@ -249,15 +160,12 @@ impl Gomoku {
         ensures value { result ≡ shown self.now.points column row }
         ensures made { ShownBy (at self.now.points self.now.turn) column row result }
     {
-        let (column, row) = (column as usize, row as usize);
-        if column < SIZE && row < SIZE {
-            Some(self.points[SIZE * row + column])
-        } else {
-            None
-        }
+        let (column, row) = (usize::from(column), usize::from(row));
+        (column < SIZE && row < SIZE).then(|| self.points[SIZE * row + column])
     }
 
     // How many stones lie on the board: as many as codes were made.
+    #[tactic(auto, using(gomoku_theory::proofs::Moves::made_by))]
     pub fn stones(&self) -> u32
         ensures value { result ≡ stones_on self.now.points }
         ensures made { MadeBy (at self.now.points self.now.turn) result }
@@ -269,11 +177,7 @@ impl Gomoku {
     fn fitting(&self, code: u16) -> bool
         ensures { result ≡ fits self.now.points code }
     {
-        let place = code as usize;
-        match self.status {
-            Status::Open => place < POINTS && self.points[place].is_open(),
-            Status::Won(_) | Status::Drawn => false,
-        }
+        self.status == Status::Open && self.points.get(usize::from(code)) == Some(&Point::Free)
     }
 }
 
@@ -282,9 +186,9 @@ impl Rules for Gomoku {
 
     const LONGEST: u16 = 225;
 
-    ghost codes = { 225 };
+    ghost CODES = { 225 };
 
-    ghost longest = { 225 };
+    ghost LONGEST = { 225 };
 
     ghost plan = { λ _. gomoku_from empty First };
 
@@ -293,14 +197,6 @@ impl Rules for Gomoku {
     ghost lawful = { λ x. laws };
 
     ghost point = { λ x. point_of gomoku start (at x.points x.turn) x.way };
-
-    fn code_count() -> u16 {
-        Self::CODES
-    }
-
-    fn longest_game() -> u16 {
-        Self::LONGEST
-    }
 
     fn reset(&mut self) {
         *self = Gomoku::new();
@@ -312,7 +208,7 @@ impl Rules for Gomoku {
         }
         let side = self.turn;
         let next = side.other();
-        let place = code as usize;
+        let place = usize::from(code);
         self.points[place] = Point::Stone(side);
         self.turn = next;
         self.stones += 1;
@@ -328,7 +224,7 @@ impl Rules for Gomoku {
         ensures answer { result ≡ (gomoku_from self.now.points self.now.turn).chance [] side }
         ensures no_win { result ≡ false → NoWin (gomoku_from self.now.points self.now.turn) side }
     {
-        has_room(&self.points, side)
+        Sought::Room(side).fits_board(&self.points)
     }
 
     fn copy(&self) -> Self {

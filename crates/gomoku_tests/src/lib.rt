@@ -39,7 +39,7 @@ mod tests {
 
     // Makes the codes of the side to move, and the other side's in between elsewhere.
     fn play(rt: &impl Abort, game: &mut Gomoku, codes: &[u16]) {
-        for (code, other) in codes.iter().zip(ELSEWHERE.iter()) {
+        for (code, other) in codes.iter().zip(&ELSEWHERE) {
             made(rt, game, *code);
             if game.status() == Status::Open {
                 made(rt, game, *other);
@@ -51,10 +51,9 @@ mod tests {
     fn wins(rt: &impl Abort, line: [u16; 5]) {
         for last in 0..5usize {
             let mut codes = line;
-            codes[last] = line[4];
-            codes[4] = line[last];
+            codes.swap(last, 4);
             let mut game = Gomoku::new();
-            play(rt, &mut game, &codes[0..4]);
+            play(rt, &mut game, &codes[..4]);
             stands(rt, &game, Status::Open, 8);
             made(rt, &mut game, codes[4]);
             stands(rt, &game, Status::Won(Side::First), 9);
@@ -78,31 +77,18 @@ mod tests {
         (code % 15 + 2 * (code / 15 % 2)) % 4 < 2
     }
 
-    // The lowest point at or above a code that the pattern gives to a side; 225 where there is none.
-    fn next_for(first: bool, from: u16) -> u16 {
-        for code in from..225 {
-            if is_firsts(code) == first {
-                return code;
-            }
-        }
-        225
-    }
-
     // A new board with some stones laid by the pattern, the lowest point of each side first.
     fn filled(rt: &impl Abort, stones: u32) -> Gomoku {
+        let mut firsts = (0..225u16).filter(|code| is_firsts(*code));
+        let mut seconds = (0..225u16).filter(|code| !is_firsts(*code));
         let mut game = Gomoku::new();
-        let mut first = 0u16;
-        let mut second = 0u16;
         for n in 0..stones {
-            if n % 2 == 0 {
-                first = next_for(true, first);
-                made(rt, &mut game, first);
-                first = first.wrapping_add(1);
+            let next = if n % 2 == 0 {
+                firsts.next()
             } else {
-                second = next_for(false, second);
-                made(rt, &mut game, second);
-                second = second.wrapping_add(1);
-            }
+                seconds.next()
+            };
+            made(rt, &mut game, next.unwrap_or(225));
         }
         game
     }
@@ -126,8 +112,8 @@ mod tests {
 
     #[test]
     fn names_its_constants(rt: HostRuntime) {
-        assert_eq!(rt; <Gomoku as Rules>::code_count(), 225);
-        assert_eq!(rt; <Gomoku as Rules>::longest_game(), 225);
+        assert_eq!(rt; <Gomoku as Rules>::CODES, 225);
+        assert_eq!(rt; <Gomoku as Rules>::LONGEST, 225);
     }
 
     #[test]

@@ -1,24 +1,24 @@
 -- The windows of the board by heading, and those through one cell.
 use Rattle.std.specs.Prelude.{◌≡◌, ℕ, ◌+◌, ◌-◌, ◌<◌, ◌≤◌, Bool, true, false, cond, ◌&&◌, ◌||◌, List, ◌++◌, length, Some, None, Option, ◌==◌, ◌≢◌, nat_le, nat_lt, refl}
+use Rattle.std.specs.List.{list_any, range_with_len}
 use Rattle.std.proofs.Common.{sym, ap, ◌∙◌, inl, inr, arith}
 use Rattle.std.proofs.Math.Path.{ap₂}
-use Rattle.std.proofs.lemmas.Bool.{and_parts, and_from, or_parts, cases_Bool, both_ways, le-leb, lt-ltb, ltb-true, eq-eqb, eqb-true, cond-true, true≢false}
+use Rattle.std.proofs.Math.Bool.{or-false}
+use Rattle.std.proofs.lemmas.List.Folds.{list_all-map}
+use Rattle.std.proofs.lemmas.Bool.{and_parts, and_from, cases_Bool, both_ways, le-leb, lt-ltb, ltb-true, eq-eqb, eqb-true, cond-true, true≢false}
 use Rattle.board.specs.Windows.{Cell, cells, every, some, below, grid, windows, in_line}
 use Rattle.board.proofs.Windows.{some_in, every_weaker, some_append, some_grid, found}
-use Rattle.gomoku.specs.declared.Heading.{Heading}
-use Rattle.gomoku.specs.declared.Heading.TheVariants.{Upright, Level, Rising, Falling}
-use Rattle.gomoku.specs.Gomoku.{lines}
-use Rattle.gomoku.specs.Search.{columns_of, rows_of, column_at, row_at, cell_at, window, column_has, board_has, begin, both, begin_of, begun, passes, through}
-use Rattle.gomoku.specs.Tests.{same_test, one_of, none_of, every_map, each_of, from_each}
+use Rattle.gomoku_theory.specs.declared.Heading.{Heading}
+use Rattle.gomoku_theory.specs.declared.Heading.TheVariants.{Upright, Level, Rising, Falling}
+use Rattle.gomoku_theory.specs.Gomoku.{lines}
+use Rattle.gomoku_theory.specs.Search.{headings, columns_of, rows_of, column_at, row_at, cell_at, window, board_has, begin, both, begin_of, begun, passes, through}
+use Rattle.gomoku_theory.proofs.Tests.{same_test, same_any, range_is_below, one_of, none_of, each_of, from_each}
 
 pub count : length lines ≡ 572
 unfolding windows
 count = refl
 
 -- ---- all windows, heading by heading
-
-abbrev each_heading : (Heading → Bool) → Bool
-each_heading f = f Upright || (f Level || (f Rising || f Falling))
 
 some_four : {X : Type 0} (q : X → Bool) (u v w x : List X) → some q (u ++ (v ++ (w ++ x))) ≡ (some q u || (some q v || (some q w || some q x)))
 some_four q u v w x =
@@ -45,9 +45,21 @@ some_windows p columns rows n =
     (ap₂ ◌||◌ (some_grid q rising (λ c r. q (rising c r)) (λ c r. refl) C R)
     (some_grid q falling (λ c r. q (falling c r)) (λ c r. refl) C R)))
 
-pub line_is : (p : Cell → Bool) → in_line lines p ≡ each_heading (λ h. board_has p h (columns_of h))
-unfolding in_line board_has column_has
-line_is p = some_windows p 15 15 5
+board_is : (p : Cell → Bool) (h : Heading) → board_has p h ≡ some (λ c. some (λ r. every p (window h c r)) (below (rows_of h))) (below (columns_of h))
+unfolding board_has
+board_is p h =
+    let e : range_with_len 0 ≡ below = λ i n. range_is_below n i in
+    ap (λ (f : ℕ → List ℕ). some (λ c. some (λ r. every p (window h c r)) (f (rows_of h))) (f (columns_of h))) e
+
+pub line_is : (p : Cell → Bool) → in_line lines p ≡ list_any (board_has p) headings
+unfolding in_line
+line_is p =
+    some_windows p 15 15 5
+    ∙ sym (ap₂ ◌||◌ (board_is p Upright) (ap₂ ◌||◌ (board_is p Level) (ap₂ ◌||◌ (board_is p Rising) (or-false (board_has p Falling) ∙ board_is p Falling))))
+
+-- what a search heading by heading answers
+pub line_by : (p : Cell → Bool) (r : Bool) → r ≡ list_any (board_has p) headings → r ≡ in_line lines p
+line_by p r e = e ∙ sym (line_is p)
 
 pub line_more : (p q : Cell → Bool) → ((x : Cell) → p x ≡ true → q x ≡ true) → in_line lines p ≡ true → in_line lines q ≡ true
 unfolding in_line
@@ -59,16 +71,15 @@ same_line p q h = let e : p ≡ q = λ i x. h x i in ap (in_line lines) e
 -- ---- one window
 
 pub window_at : (p : Cell → Bool) (h : Heading) (c r : ℕ) → every p (window h c r) ≡ every (λ j. p (cell_at h c r j)) (below 5)
-window_at p h c r = every_map p (cell_at h c r) (below 5)
+window_at p h c r = list_all-map p (cell_at h c r) (below 5)
 
-one_window : (p : Cell → Bool) (h : Heading) → board_has p h (columns_of h) ≡ true
+one_window : (p : Cell → Bool) (h : Heading) → board_has p h ≡ true
     → (c : ℕ) × (c < columns_of h) × ((r : ℕ) × (r < rows_of h) × (every p (window h c r) ≡ true))
-unfolding board_has column_has
-one_window p h y = let x = one_of _ (columns_of h) y in (x.0, x.1, one_of _ (rows_of h) x.2)
+one_window p h y = let x = one_of _ (columns_of h) (sym (board_is p h) ∙ y) in (x.0, x.1, one_of _ (rows_of h) x.2)
 
-from_window : (p : Cell → Bool) (h : Heading) (c r : ℕ) → c < columns_of h → r < rows_of h → every p (window h c r) ≡ true → board_has p h (columns_of h) ≡ true
-unfolding board_has column_has
-from_window p h c r k l y = found _ c (columns_of h) k (found (λ i. every p (window h c i)) r (rows_of h) l y)
+from_window : (p : Cell → Bool) (h : Heading) (c r : ℕ) → c < columns_of h → r < rows_of h → every p (window h c r) ≡ true → board_has p h ≡ true
+from_window p h c r k l y =
+    board_is p h ∙ found _ c (columns_of h) k (found (λ i. every p (window h c i)) r (rows_of h) l y)
 
 column_inside : (h : Heading) (c j : ℕ) → c < columns_of h → j < 5 → column_at h c j < 15
 column_inside Upright c j k l = omega arith
@@ -122,11 +133,11 @@ is_cell h c0 r0 c r j = column_at h c0 j == c && row_at h r0 j == r
 
 module _ (p q : Cell → Bool) (c r : ℕ) (k : c < 15) (l : r < 15)
     (same : (x : Cell) → x.column < 15 → (x.column ≡ c → x.row ≢ r) → q x ≡ true → p x ≡ true) where
-  passed : (h : Heading) (o : Option (ℕ × ℕ)) → ((x : ℕ × ℕ) → o ≡ Some x → (x.0 < columns_of h) × (x.1 < rows_of h)) → begun q h o ≡ true → board_has q h (columns_of h) ≡ true
+  passed : (h : Heading) (o : Option (ℕ × ℕ)) → ((x : ℕ × ℕ) → o ≡ Some x → (x.0 < columns_of h) × (x.1 < rows_of h)) → begun q h o ≡ true → board_has q h ≡ true
   passed h None f y = absurd (true≢false (sym y))
   passed h (Some x) f y = let e = f x refl in from_window q h x.0 x.1 e.0 e.1 y
 
-  nearby : (h : Heading) → through q h c r 5 ≡ true → board_has q h (columns_of h) ≡ true
+  nearby : (h : Heading) → through q h c r ≡ true → board_has q h ≡ true
   unfolding through
   nearby h y =
       let x = one_of (passes q h c r) 5 y in
@@ -143,7 +154,7 @@ module _ (p q : Cell → Bool) (c r : ℕ) (k : c < 15) (l : r < 15)
       (each_of (λ i. q (cell_at h c0 r0 i)) 5 j e b))
 
   hit : (h : Heading) (c0 r0 : ℕ) → c0 < columns_of h → r0 < rows_of h → every q (window h c0 r0) ≡ true
-      → some (is_cell h c0 r0 c r) (below 5) ≡ true → through q h c r 5 ≡ true
+      → some (is_cell h c0 r0 c r) (below 5) ≡ true → through q h c r ≡ true
   unfolding through
   hit h c0 r0 m n y s =
       let x = one_of (is_cell h c0 r0 c r) 5 s in
@@ -152,7 +163,7 @@ module _ (p q : Cell → Bool) (c r : ℕ) (k : c < 15) (l : r < 15)
       let b : begin_of h c r j ≡ Some (c0, r0) = ap₂ (λ (a b : ℕ). begin_of h a b j) (sym (eqb-true _ _ e.0)) (sym (eqb-true _ _ e.1)) ∙ begin_of_is h c0 r0 j m n x.1 in
       found (passes q h c r) j 5 x.1 (ap (begun q h) b ∙ y)
 
-  only_near : (h : Heading) → board_has p h (columns_of h) ≡ false → board_has q h (columns_of h) ≡ through q h c r 5
+  only_near : (h : Heading) → board_has p h ≡ false → board_has q h ≡ through q h c r
   only_near h none =
       same_test _ _
       (λ y.
@@ -164,9 +175,6 @@ module _ (p q : Cell → Bool) (c r : ℕ) (k : c < 15) (l : r < 15)
       ])
       (nearby h)
 
-  pub line_near : in_line lines p ≡ false → in_line lines q ≡ each_heading (λ h. through q h c r 5)
+  pub line_near : in_line lines p ≡ false → in_line lines q ≡ list_any (λ h. through q h c r) headings
   line_near none =
-      let a = or_parts _ _ (sym (line_is p) ∙ none) in
-      let b = or_parts _ _ a.1 in
-      let d = or_parts _ _ b.1 in
-      line_is q ∙ ap₂ ◌||◌ (only_near Upright a.0) (ap₂ ◌||◌ (only_near Level b.0) (ap₂ ◌||◌ (only_near Rising d.0) (only_near Falling d.1)))
+      line_is q ∙ same_any (board_has p) (board_has q) (λ h. through q h c r) headings only_near (sym (line_is p) ∙ none)

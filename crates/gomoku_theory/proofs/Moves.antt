@@ -1,48 +1,26 @@
 -- What a code does to a position of Gomoku, and the laws from it.
-use Rattle.std.specs.Prelude.{◌≡◌, ℕ, suc, ◌+◌, ◌-◌, ◌*◌, ◌/◌, ◌%◌, ◌<◌, Bool, true, false, cond, not, ◌&&◌, ◌||◌, List, [], ◌∷◌, length, get_or, set, Some, None, ◌==◌, ◌≢◌, nat_eq, nat_lt, slice_index_or, slice_set, refl}
+use Rattle.std.specs.Prelude.{◌≡◌, ℕ, suc, ◌+◌, ◌-◌, ◌*◌, ◌/◌, ◌%◌, ◌<◌, Bool, true, false, cond, not, ◌&&◌, List, [], ◌∷◌, length, get_or, set, Some, None, Option, ◌==◌, ◌≢◌, nat_eq, nat_lt, slice_index_or, slice_set, refl}
 use Rattle.std.proofs.Common.{sym, ap, ap₂, subst, ◌∙◌, inl, inr, arith}
-use Rattle.std.proofs.lemmas.Bool.{and_parts, and_from, ltb-true, lt-ltb, eq-eqb, eqb-true, ne_eqb, cases_Bool, cases_eq, true≢false, both_ways}
+use Rattle.std.proofs.lemmas.Bool.{false_from_ne_true, and_parts, and_from, ltb-true, lt-ltb, eq-eqb, eqb-true, ne_eqb, cases_Bool, cases_eq, true≢false, both_ways}
 use Rattle.std.proofs.lemmas.List.Sums.{sum_by-set, sum_by-cons, count_by-le-length}
 use Rattle.std.proofs.lemmas.List.{length-set, get_or-set_same, get_or-set_other, get_or-replicate}
 use Rattle.side.specs.declared.Side.{Side}
 use Rattle.side.specs.declared.Side.TheVariants.{First, Second}
 use Rattle.side.specs.TwoSides.{opponent, same_side}
+use Rattle.rules.specs.declared.Status.{Status}
 use Rattle.rules.specs.declared.Status.TheVariants.{Open, Won, Drawn}
-use Rattle.rules.specs.Plans.{is_open, Lawful}
-use Rattle.rules.specs.Machine.{after, all_legal}
-use Rattle.rules.proofs.Sound.{Sound, lawful}
+use Rattle.rules.specs.Plans.{is_open, Lawful, NoWin}
+use Rattle.rules.specs.Machine.{after, all_legal, OnWay}
+use Rattle.rules.proofs.Sound.{Sound, lawful, point_of, next_on_way}
+use Rattle.rules.proofs.Dead.{no_win}
 use Rattle.rules.proofs.Statuses.{status_open}
-use Rattle.board.specs.Windows.{Cell, in_line, windows}
-use Rattle.gomoku.specs.declared.Point.{Point}
-use Rattle.gomoku.specs.declared.Point.TheVariants.{Free, Stone}
-use Rattle.gomoku.specs.declared.Heading.TheVariants.{Upright, Level, Rising, Falling}
-use Rattle.gomoku.specs.Gomoku.{Position, at, empty, start, is_free, taken, is_of, code_of, on_cell, lines, five_of, full, stones_on, status_of, fits, chance_of, gomoku, gomoku_from, shown, Counted, OneWinner, stone_by, ShownBy}
-use Rattle.gomoku.specs.Search.{meets, seen, board_has, won_at, judged_by}
-use Rattle.gomoku.specs.Tests.{same_test, never_true}
-use Rattle.gomoku.specs.Lines.{line_is, line_more, same_line, line_near}
-
--- ---- what the code looks for
-
-meets_of : (x : Point) (t : Side) → meets x t false ≡ is_of t x
-meets_of Free t = refl
-meets_of (Stone s) t = refl
-
-meets_not : (x : Point) (t : Side) → meets x t true ≡ not (is_of (opponent t) x)
-meets_not Free t = refl
-meets_not (Stone First) First = refl
-meets_not (Stone First) Second = refl
-meets_not (Stone Second) First = refl
-meets_not (Stone Second) Second = refl
-
-pub seen_five : (ps : List Point) (t : Side) → in_line lines (seen ps t false) ≡ five_of ps t
-seen_five ps t = same_line (seen ps t false) (λ x. is_of t (on_cell ps x)) (λ x. meets_of (on_cell ps x) t)
-
-pub seen_chance : (ps : List Point) (t : Side) → in_line lines (seen ps t true) ≡ chance_of ps t
-seen_chance ps t = same_line (seen ps t true) (λ x. not (is_of (opponent t) (on_cell ps x))) (λ x. meets_not (on_cell ps x) t)
-
-pub chance_is : (ps : List Point) (t : Side) → (let p = seen ps t true in
-    board_has p Upright 15 || (board_has p Level 11 || (board_has p Rising 11 || board_has p Falling 11))) ≡ chance_of ps t
-chance_is ps t = sym (line_is (seen ps t true)) ∙ seen_chance ps t
+use Rattle.board.specs.Windows.{in_line, windows}
+use Rattle.gomoku_theory.specs.declared.Point.{Point}
+use Rattle.gomoku_theory.specs.declared.Point.TheVariants.{Free, Stone}
+use Rattle.gomoku_theory.specs.Gomoku.{Position, at, empty, start, is_free, taken, is_of, code_of, on_cell, five_of, full, stones_on, status_of, fits, chance_of, gomoku, gomoku_from, shown, Counted, OneWinner, MadeBy, stone_by, ShownBy}
+use Rattle.gomoku_theory.specs.Search.{won_at, judged_by}
+use Rattle.gomoku_theory.proofs.Tests.{same_test}
+use Rattle.gomoku_theory.proofs.Lines.{line_more, line_near}
 
 -- ---- a code that fits
 
@@ -132,25 +110,23 @@ others_stone ps c t k l h =
 
 others_five : (ps : List Point) (c : ℕ) (t : Side) → c < length ps → five_of ps (opponent t) ≡ false → five_of (slice_set ps c (Stone t)) (opponent t) ≡ false
 others_five ps c t l h =
-    never_true _ (λ y. both_ways _ h (line_more (λ x. is_of (opponent t) (on_cell (slice_set ps c (Stone t)) x)) (λ x. is_of (opponent t) (on_cell ps x)) (λ x e. others_stone ps c t (code_of x) l e) y))
+    false_from_ne_true _ (λ y. both_ways _ h (line_more (λ x. is_of (opponent t) (on_cell (slice_set ps c (Stone t)) x)) (λ x. is_of (opponent t) (on_cell ps x)) (λ x e. others_stone ps c t (code_of x) l e) y))
 
 -- the mover's five goes through the new stone
-movers_five : (ps : List Point) (c : ℕ) (t : Side) → c < 225 → five_of ps t ≡ false → five_of (slice_set ps c (Stone t)) t ≡ won_at (seen (slice_set ps c (Stone t)) t false) c
+movers_five : (ps : List Point) (c : ℕ) (t : Side) → c < 225 → five_of ps t ≡ false
+    → five_of (slice_set ps c (Stone t)) t ≡ won_at (λ x. is_of t (on_cell (slice_set ps c (Stone t)) x)) c
 unfolding won_at
 movers_five ps c t l h =
-    let p : Cell → Bool = seen ps t false in
-    let q : Cell → Bool = seen (slice_set ps c (Stone t)) t false in
-    sym (seen_five (slice_set ps c (Stone t)) t)
-    ∙ line_near p q (c % 15) (c / 15) (omega arith) (omega arith)
+    line_near (λ x. is_of t (on_cell ps x)) (λ x. is_of t (on_cell (slice_set ps c (Stone t)) x)) (c % 15) (c / 15) (omega arith) (omega arith)
     (λ x k apart y.
     let d : code_of x ≡ c → ⊥ = λ e. apart (omega arith) (omega arith) in
-    sym (ap (λ (z : Point). meets z t false) (get_or-set_other ps c (code_of x) (Stone t) Free d)) ∙ y)
-    (seen_five ps t ∙ h)
+    sym (ap (is_of t) (get_or-set_other ps c (code_of x) (Stone t) Free d)) ∙ y)
+    h
 
 -- ---- the status after a code
 
 pub judged : (ps : List Point) (c : ℕ) (t : Side) → length ps ≡ 225 → Fit ps c
-    → status_of (slice_set ps c (Stone t)) ≡ judged_by (won_at (seen (slice_set ps c (Stone t)) t false) c) (stones_on ps + 1) t
+    → status_of (slice_set ps c (Stone t)) ≡ judged_by (won_at (λ x. is_of t (on_cell (slice_set ps c (Stone t)) x)) c) (stones_on ps + 1) t
 judged ps c t l h =
     let qs = set ps c (Stone t) in
     let k = h.place in
@@ -168,7 +144,7 @@ judged ps c t l h =
 
 fade : (ps : List Point) (c : ℕ) (t u : Side) → is_free (slice_index_or ps c Free) ≡ true → chance_of ps u ≡ false → chance_of (slice_set ps c (Stone t)) u ≡ false
 fade ps c t u f h =
-    never_true _ (λ y. both_ways _ h (line_more (λ x. not (is_of (opponent u) (on_cell (slice_set ps c (Stone t)) x))) (λ x. not (is_of (opponent u) (on_cell ps x)))
+    false_from_ne_true _ (λ y. both_ways _ h (line_more (λ x. not (is_of (opponent u) (on_cell (slice_set ps c (Stone t)) x))) (λ x. not (is_of (opponent u) (on_cell ps x)))
     (λ x e.
     elim (cases_Bool (is_of (opponent u) (on_cell ps x))) [
       | inl a ↦ absurd (both_ways _ (ap not (kept_stone ps c t (opponent u) (code_of x) f a)) e)
@@ -342,3 +318,27 @@ one_winner w h = single_from start w whole_start (λ a b. both_ways _ (no_line F
 
 pub laws : Lawful 225 225 (gomoku_from empty First)
 laws = lawful gomoku Good 225 sound start 225 (omega arith) good_start open_start
+
+-- ---- what the code keeps, and what it answers
+
+pub more_counted : (ps : List Point) (c : ℕ) (t : Side) (n : ℕ) → length ps ≡ 225 → fits ps c ≡ true → n ≡ stones_on ps → n + 1 ≡ stones_on (slice_set ps c (Stone t))
+more_counted ps c t n l h e = let m = one_more ps c t l (fit ps c h) in omega arith
+
+pub more_judged : (ps : List Point) (c : ℕ) (t : Side) (n : ℕ) (s : Status) → length ps ≡ 225 → fits ps c ≡ true → n ≡ stones_on ps
+    → s ≡ judged_by (won_at (λ x. is_of t (on_cell (slice_set ps c (Stone t)) x)) c) (n + 1) t → s ≡ status_of (slice_set ps c (Stone t))
+more_judged ps c t n s l h e j =
+    j ∙ ap (λ (m : ℕ). judged_by (won_at (λ x. is_of t (on_cell (slice_set ps c (Stone t)) x)) c) (m + 1) t) e ∙ sym (judged ps c t l (fit ps c h))
+
+pub more_on_way : (ps : List Point) (c : ℕ) (t u : Side) → fits ps c ≡ true → OnWay gomoku start (at ps t) → u ≡ opponent t → OnWay gomoku start (at (slice_set ps c (Stone t)) u)
+more_on_way ps c t u h way e =
+    subst (λ (s : Side). OnWay gomoku start (at (slice_set ps c (Stone t)) s)) (sym e) (next_on_way gomoku start (at ps t) c way h)
+
+pub made_by : (ps : List Point) (t : Side) (n : ℕ) → OnWay gomoku start (at ps t) → n ≡ stones_on ps → MadeBy (at ps t) n
+made_by ps t n way e = (way, λ w h d. e ∙ ap (λ (p : Position). stones_on p.points) d ∙ counts w h)
+
+pub shown_as : (ps : List Point) (t : Side) (column row : ℕ) (r : Option Point) → r ≡ shown ps column row → ShownBy (at ps t) column row r
+shown_as ps t column row r e w h d = e ∙ shown_by ps t column row w h d
+
+pub no_win_left : (ps : List Point) (t u : Side) (r : Bool) → OnWay gomoku start (at ps t) → r ≡ chance_of ps u → r ≡ false → NoWin (gomoku_from ps t) u
+no_win_left ps t u r way a e =
+    no_win 225 225 (gomoku_from empty First) (gomoku_from ps t) laws (point_of gomoku start (at ps t) way) u (sym a ∙ e)

@@ -20,7 +20,7 @@
 --   MadeBy      some legal list leads to a position, and each that does has as many codes as the number says
 --   stone_by    what a list of codes, made in turn from a side on, puts on the point of a code
 --   ShownBy     what shows at a column and a row is what each legal list that leads to the position puts there
-use Rattle.std.specs.Prelude.{◌≡◌, ℕ, ◌+◌, ◌*◌, Bool, true, false, cond, not, ◌&&◌, List, [], ◌∷◌, length, replicate, Some, None, count_by, Option, ◌==◌, ◌≢◌, nat_lt, slice_index_or, slice_set}
+use Rattle.std.specs.Prelude.{◌≡◌, ℕ, ◌+◌, ◌*◌, Bool, true, false, if◌then◌else◌, not, ◌&&◌, List, [], ◌∷◌, length, replicate, Some, None, count_by, Option, ◌==◌, ◌≢◌, nat_lt, slice_index_or, slice_set}
 use Rattle.side.specs.declared.Side.{Side}
 use Rattle.side.specs.declared.Side.TheVariants.{First, Second}
 use Rattle.side.specs.TwoSides.{opponent, same_side}
@@ -29,8 +29,8 @@ use Rattle.rules.specs.declared.Status.TheVariants.{Open, Won, Drawn}
 use Rattle.rules.specs.Plans.{RulesPlan, is_open}
 use Rattle.rules.specs.Machine.{Machine, plan_of, after, all_legal, OnWay}
 use Rattle.board.specs.Windows.{Cell, every, windows, in_line}
-use Rattle.gomoku.specs.declared.Point.{Point}
-use Rattle.gomoku.specs.declared.Point.TheVariants.{Free, Stone}
+use Rattle.gomoku_theory.specs.declared.Point.{Point}
+use Rattle.gomoku_theory.specs.declared.Point.TheVariants.{Free, Stone}
 
 pub record Position : Type 0 where
   pub points : List Point
@@ -75,7 +75,7 @@ abbrev pub stones_on : List Point → ℕ
 stones_on ps = count_by taken ps
 
 abbrev pub status_of : List Point → Status
-status_of ps = cond (five_of ps First) (Won First) (cond (five_of ps Second) (Won Second) (cond (full ps) Drawn Open))
+status_of ps = if five_of ps First then Won First else if five_of ps Second then Won Second else if full ps then Drawn else Open
 
 abbrev pub fits : List Point → ℕ → Bool
 fits ps c = is_open (status_of ps) && (nat_lt c 225 && is_free (slice_index_or ps c Free))
@@ -95,7 +95,7 @@ abbrev pub gomoku_from : List Point → Side → RulesPlan
 gomoku_from ps t = plan_of gomoku (at ps t)
 
 abbrev pub shown : List Point → ℕ → ℕ → Option Point
-shown ps column row = cond (nat_lt column 15 && nat_lt row 15) (Some (slice_index_or ps (15 * row + column) Free)) None
+shown ps column row = if nat_lt column 15 && nat_lt row 15 then Some (slice_index_or ps (15 * row + column) Free) else None
 
 abbrev pub Counted : Type 0
 Counted = (w : List ℕ) → all_legal gomoku start w ≡ true → stones_on (after gomoku start w).points ≡ length w
@@ -109,8 +109,8 @@ MadeBy p n = OnWay gomoku start p × ((w : List ℕ) → all_legal gomoku start 
 
 abbrev pub stone_by : Side → List ℕ → ℕ → Point
 stone_by t [] c = Free
-stone_by t (d ∷ w) c = cond (d == c) (Stone t) (stone_by (opponent t) w c)
+stone_by t (d ∷ w) c = if d == c then Stone t else stone_by (opponent t) w c
 
 abbrev pub ShownBy : Position → ℕ → ℕ → Option Point → Type 0
 ShownBy p column row r = (w : List ℕ) → all_legal gomoku start w ≡ true → p ≡ after gomoku start w
-    → r ≡ cond (nat_lt column 15 && nat_lt row 15) (Some (stone_by First w (15 * row + column))) None
+    → r ≡ (if nat_lt column 15 && nat_lt row 15 then Some (stone_by First w (15 * row + column)) else None)

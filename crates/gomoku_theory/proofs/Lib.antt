@@ -1,0 +1,4 @@
+pub mod Tests
+pub mod Lines
+pub mod Moves
+pub mod Steps

@@ -1,0 +1,2 @@
+pub mod Gomoku
+pub mod Search
