@@ -8,3 +8,6 @@ mod two;
 pub use many::{Bench, Unseated};
 pub use one::Alone;
 pub use two::TwoBanks;
+
+// the most players that a bank holds
+const MOST: usize = 65_535;

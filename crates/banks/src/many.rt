@@ -1,17 +1,14 @@
 // A bank of players of one type, for an event whose entrants are chosen when the program runs.
-ghost use Rattle.std.specs.Prelude.{◌≡◌, ℕ, ◌≤◌, length, vec_len, vec_capacity, OnOk};
-ghost use Rattle.std.proofs.Common.{ap, lit≤, arith};
-ghost use Rattle.player.specs.Answers.{resigning, Answers, AreCodes};
-ghost use Rattle.banks.specs.Numbers.{nobody, listed, Seats, Added};
-ghost use Rattle.side.specs.declared.Side.{Side};
-ghost use Rattle.banks.specs.Places.{listed_all, listed_past};
+ghost use Rattle.std.specs.Prelude.{◌≡◌, ℕ, ◌≤◌, vec_len, vec_capacity, OnOk};
+ghost use Rattle.player.specs.Answers.{resigning};
+ghost use Rattle.banks_theory.specs.Numbers.{nobody, listed, Seats};
+ghost use Rattle.banks_theory.proofs.Places.{listed_coded, listed_absent};
+ghost use Rattle.banks.specs.Held.{Added};
 
+use crate::MOST;
 use player::{Bank, Player, RESIGNS};
 use side::Side;
 use std::alloc::Global;
-
-// the most players that a bench seats
-const MOST: usize = 65_535;
 
 // Players in the order in which they were added.
 #[derive(Drop)]
@@ -49,10 +46,9 @@ impl<P: Player> Bench<P> {
         if self.count() >= MOST {
             return Err(Unseated::Full(player));
         }
-        match self.players.push(player) {
-            Ok(()) => Ok(()),
-            Err(back) => Err(Unseated::NoMemory(back.value)),
-        }
+        self.players
+            .push(player)
+            .map_err(|back| Unseated::NoMemory(back.value))
     }
 }
 
@@ -65,38 +61,31 @@ impl<P: Player> Bank for Bench<P> {
 
     ghost few = { λ b. b.few };
 
-    ghost coded = { λ b k.
-        let Q : (Side → Answers) → Type 0 = λ plan. (seat : Side) → AreCodes (plan seat) in
-        listed_all P.Player.plan nobody Q P.Player.coded (λ seat w. lit≤ tt) b.players.items k };
+    ghost coded = { λ b. listed_coded P.Player.plan P.Player.coded b.players.items };
 
-    ghost absent = { λ b k h.
-        let past : length b.players.items ≤ k = let e = b.players.ok.0 in omega arith in
-        record {
-          at_seat = λ seat. ap (λ (plan : Side → Answers). plan seat) (listed_past P.Player.plan nobody b.players.items k past);
-          at_point = listed_past P.Player.line resigning b.players.items k past;
-        } };
+    ghost absent = { λ b. listed_absent P.Player.plan P.Player.line b.players.items _ b.players.ok.0 };
 
     fn count(&self) -> usize {
         self.players.len()
     }
 
+    #[tactic(auto, using(banks_theory::proofs::Places::seats))]
     fn reset(&mut self, number: usize, seat: Side) {
-        if number < self.count() {
-            self.players[number].reset(seat);
+        if let Some(player) = self.players.get_mut(number) {
+            player.reset(seat);
         }
     }
 
+    #[tactic(auto, using(banks_theory::proofs::Places::seats))]
     fn show(&mut self, number: usize, code: u16) {
-        if number < self.count() {
-            self.players[number].show(code);
+        if let Some(player) = self.players.get_mut(number) {
+            player.show(code);
         }
     }
 
     fn choose(&self, number: usize) -> u16 {
-        if number < self.count() {
-            self.players[number].choose()
-        } else {
-            RESIGNS
-        }
+        self.players
+            .get(number)
+            .map_or(RESIGNS, |player| player.choose())
     }
 }

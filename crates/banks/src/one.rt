@@ -1,16 +1,11 @@
 // A single player is a bank of one.
-ghost use Rattle.player.specs.Answers.{resigning, Answers, AreCodes};
-ghost use Rattle.banks.specs.Numbers.{nobody, only, Seats};
-ghost use Rattle.std.proofs.Common.{lit≤, ap, arith, rules};
-ghost use Rattle.side.specs.declared.Side.{Side};
-ghost use Rattle.banks.specs.Places.{only_all, only_else};
-ghost use Rattle.std.specs.Prelude.{◌≢◌};
+ghost use Rattle.player.specs.Answers.{resigning};
+ghost use Rattle.banks_theory.specs.Numbers.{nobody, only, Seats};
+ghost use Rattle.banks_theory.proofs.Places.{only_coded, only_absent};
+ghost use Rattle.std.proofs.Common.{rules};
 
 use player::{Bank, Player, RESIGNS};
 use side::Side;
-
-// how many players it holds
-const HELD: usize = 1;
 
 // Number 0 is the player; every other number is not held.
 #[derive(Drop)]
@@ -36,19 +31,12 @@ impl<P: Player> Bank for Alone<P> {
 
     ghost few = { Prim.search rules };
 
-    ghost coded = { λ b k.
-        let Q : (Side → Answers) → Type 0 = λ plan. (seat : Side) → AreCodes (plan seat) in
-        only_all Q (P.Player.plan b.player) nobody (P.Player.coded b.player) (λ seat w. lit≤ tt) k };
+    ghost coded = { λ b. only_coded (P.Player.plan b.player) (P.Player.coded b.player) };
 
-    ghost absent = { λ b k h.
-        let ne : k ≢ 0 = omega arith in
-        record {
-          at_seat = λ seat. ap (λ (plan : Side → Answers). plan seat) (only_else (P.Player.plan b.player) nobody k ne);
-          at_point = only_else (P.Player.line b.player) resigning k ne;
-        } };
+    ghost absent = { λ b. only_absent (P.Player.plan b.player) (P.Player.line b.player) };
 
     fn count(&self) -> usize {
-        HELD
+        1
     }
 
     fn reset(&mut self, number: usize, seat: Side) {

@@ -1,29 +1,20 @@
 // Two banks are a bank; the second's numbers follow the first's.
 ghost use Rattle.std.specs.Prelude.{◌≡◌};
-ghost use Rattle.std.proofs.Common.{ap, lit≤, rules};
-ghost use Rattle.player.specs.Answers.{resigning, Answers, AreCodes};
-ghost use Rattle.banks.specs.Numbers.{nobody, together, place, both_held, both_at, Joins};
-ghost use Rattle.side.specs.declared.Side.{Side};
-ghost use Rattle.banks.specs.Places.{joined_all, joined_past};
+ghost use Rattle.std.proofs.Common.{rules};
+ghost use Rattle.player.specs.Answers.{resigning};
+ghost use Rattle.banks_theory.specs.Numbers.{nobody, together, place, Joins};
+ghost use Rattle.banks_theory.proofs.Places.{joined_coded, joined_absent};
+ghost use Rattle.banks.specs.Held.{both_held, both_at};
 
+use crate::MOST;
+use banks_theory::Place;
 use player::{Bank, RESIGNS};
 use side::Side;
-
-// the most players that a bank holds
-const MOST: usize = 65_535;
 
 #[derive(Drop)]
 pub struct TwoBanks<X, Y> {
     low: X,
     high: Y,
-}
-
-// Whose number it is, as that bank counts.
-#[derive(Clone, Copy)]
-enum Place {
-    Low(usize),
-    High(usize),
-    Nowhere,
 }
 
 impl<X: Bank, Y: Bank> TwoBanks<X, Y> {
@@ -65,16 +56,9 @@ impl<X: Bank, Y: Bank> Bank for TwoBanks<X, Y> {
 
     ghost few = { Prim.search rules };
 
-    ghost coded = { λ b k.
-        let Q : (Side → Answers) → Type 0 = λ plan. (seat : Side) → AreCodes (plan seat) in
-        joined_all Q _ _ (X.Bank.plan b.low) (Y.Bank.plan b.high) nobody (X.Bank.coded b.low) (Y.Bank.coded b.high) (λ seat w. lit≤ tt) k };
+    ghost coded = { λ b. joined_coded _ _ (X.Bank.plan b.low) (Y.Bank.plan b.high) (X.Bank.coded b.low) (Y.Bank.coded b.high) };
 
-    ghost absent = { λ b k h.
-        let few = X.Bank.few b.low in
-        record {
-          at_seat = λ seat. ap (λ (plan : Side → Answers). plan seat) (joined_past _ _ (X.Bank.plan b.low) (Y.Bank.plan b.high) nobody few k h);
-          at_point = joined_past _ _ (X.Bank.line b.low) (Y.Bank.line b.high) resigning few k h;
-        } };
+    ghost absent = { λ b. joined_absent _ _ (X.Bank.plan b.low) (Y.Bank.plan b.high) (X.Bank.line b.low) (Y.Bank.line b.high) (X.Bank.few b.low) };
 
     fn count(&self) -> usize {
         self.total()

@@ -1,9 +1,7 @@
 // A bank as large as a bank can be: every player always answers the same code.
-ghost use Rattle.std.specs.Prelude.{◌≡◌, ◌≤◌, nat_lt};
+ghost use Rattle.std.specs.Prelude.{◌≡◌, ◌≤◌};
 ghost use Rattle.banks_tests.specs.Crowds.{alike};
-ghost use Rattle.std.proofs.Common.{lit≤, rules};
-ghost use Rattle.std.proofs.lemmas.Bool.{cond_both, cond-false, le-ltb};
-ghost use Rattle.std.proofs.Math.Path.{fun_ext};
+ghost use Rattle.std.proofs.Common.{rules};
 
 use player::{Bank, RESIGNS};
 use side::Side;
@@ -33,11 +31,9 @@ impl Bank for Crowd {
 
     ghost few = { Prim.search rules };
 
-    ghost coded = { λ b k seat w. cond_both (nat_lt k 65535) b.code 65534 (λ c. c ≤ 65535) (λ _. b.coded) (λ _. lit≤ tt) };
+    ghost coded = { Prim.search rules };
 
-    ghost absent = { λ b k h.
-        let e = fun_ext (λ w. cond-false (nat_lt k 65535) b.code 65534 (le-ltb k 65535 h)) in
-        record { at_seat = λ seat. e; at_point = e } };
+    ghost absent = { Prim.search rules };
 
     fn count(&self) -> usize {
         MANY

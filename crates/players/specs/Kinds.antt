@@ -5,8 +5,8 @@ use Rattle.std.specs.Prelude.{ℕ, vec_items}
 use Rattle.side.specs.declared.Side.{Side}
 use Rattle.player.specs.Answers.{Answers}
 use Rattle.rules.specs.Plans.{RulesPlan}
-use Rattle.players.specs.Scripts.{scripted, scripted_from}
-use Rattle.players.specs.Steps.{stepper_answers}
+use Rattle.players_theory.specs.Scripts.{scripted, scripted_from}
+use Rattle.players_theory.specs.Steps.{stepper_answers}
 use Rattle.players.specs.declared.kinds.Kind.{Kind}
 use Rattle.players.specs.declared.kinds.Kind.TheVariants.{Script, Stepper}
 

@@ -1,9 +1,7 @@
 // A player of a kind that is chosen when the program runs.
 ghost use Rattle.players.specs.Kinds.{kind_plan, kind_line};
-ghost use Rattle.std.specs.Prelude.{◌/◌, length};
 ghost use Rattle.players.specs.declared.kinds.Kind.TheVariants.{Script, Stepper};
-ghost use Rattle.players.specs.Steps.{shown_to};
-ghost use Rattle.players.specs.Least.{stepped_code};
+ghost use Rattle.players_theory.proofs.Least.{stepper_coded};
 
 use crate::scripts::Script;
 use crate::steppers::Stepper;
@@ -11,6 +9,7 @@ use player::Player;
 use rules::Rules;
 use side::Side;
 
+// An enum, and no boxed `dyn Player`: the gate refuses a function that makes one and hands it out.
 #[derive(Drop)]
 pub enum Kind<R> {
     Script(Script),
@@ -18,13 +17,13 @@ pub enum Kind<R> {
 }
 
 impl<R: Rules + Drop> Player for Kind<R> {
-    ghost plan = { kind_plan R.Rules.codes R.Rules.plan };
+    ghost plan = { kind_plan R.Rules.CODES R.Rules.plan };
 
-    ghost line = { kind_line R.Rules.codes R.Rules.line };
+    ghost line = { kind_line R.Rules.CODES R.Rules.line };
 
     ghost coded = { elim [
-      | Script s ↦ λ seat w. s.coded (length w / 2)
-      | Stepper s ↦ λ seat w. stepped_code R.Rules.codes s.step (shown_to (R.Rules.plan s.rules) w) (R.Rules.lawful s.rules).few
+      | Script s ↦ λ seat. s.coded
+      | Stepper s ↦ λ seat. stepper_coded s.step (R.Rules.lawful s.rules)
     ] };
 
     fn reset(&mut self, seat: Side) {

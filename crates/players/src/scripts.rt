@@ -1,6 +1,7 @@
 // A player that answers from a list of codes.
-ghost use Rattle.std.specs.Prelude.{◌≡◌, ℕ, ◌≤◌, ◌/◌, length, slice_index_or};
-ghost use Rattle.players.specs.Scripts.{scripted, scripted_from};
+ghost use Rattle.std.specs.Prelude.{◌≡◌};
+ghost use Rattle.player.specs.Answers.{AreCodes};
+ghost use Rattle.players_theory.specs.Scripts.{scripted, scripted_from};
 
 use player::{Player, RESIGNS};
 use side::Side;
@@ -10,7 +11,7 @@ pub struct Script {
     codes: Vec<u16>,
     // how many codes were shown, until the answers are past the last
     shown: usize,
-    ghost coded: { (k : ℕ) → slice_index_or codes.items k 65534 ≤ 65535 },
+    ghost coded: { AreCodes (scripted codes.items) },
 }
 
 impl Script {
@@ -18,16 +19,8 @@ impl Script {
         ensures plan { scripted result.codes.items ≡ scripted codes.items }
         ensures line { scripted_from result.codes.items result.shown ≡ scripted codes.items }
     {
-        look_at(codes.as_slice());
         Script { codes, shown: 0 }
     }
-}
-
-// A slice that is looked at is known to hold numbers of 16 bits, which are codes.
-fn look_at(codes: &[u16])
-    ensures { (k : ℕ) → slice_index_or codes.now k 65534 ≤ 65535 }
-{
-    let _ = codes.first();
 }
 
 impl Player for Script {
@@ -35,7 +28,7 @@ impl Player for Script {
 
     ghost line = { λ s. scripted_from s.codes.items s.shown };
 
-    ghost coded = { λ s seat w. s.coded (length w / 2) };
+    ghost coded = { λ s seat. s.coded };
 
     fn reset(&mut self, _seat: Side) {
         self.shown = 0;
@@ -48,11 +41,6 @@ impl Player for Script {
     }
 
     fn choose(&self) -> u16 {
-        let entry = self.shown / 2;
-        if entry < self.codes.len() {
-            self.codes[entry]
-        } else {
-            RESIGNS
-        }
+        self.codes.get(self.shown / 2).copied().unwrap_or(RESIGNS)
     }
 }

@@ -1,5 +1,5 @@
 -- A pile of counters keeps the laws.
-use Rattle.std.specs.Prelude.{◌≡◌, ℕ, zero, suc, ◌-◌, ◌<◌, ◌≤◌, Bool, true, false, cond, ◌==◌, ◌≢◌, refl}
+use Rattle.std.specs.Prelude.{◌≡◌, ℕ, zero, suc, ◌-◌, ◌<◌, ◌≤◌, Bool, true, false, if◌then◌else◌, ◌==◌, ◌≢◌, refl}
 use Rattle.std.proofs.Common.{arith, lit≤}
 use Rattle.std.proofs.lemmas.Bool.{and_parts, and_from, ltb-true, leb-true, le-leb, ne_eqb, cond-false}
 use Rattle.side.specs.declared.Side.{Side}
@@ -19,7 +19,7 @@ goes_on : (left : ℕ) → pile.status left ≡ Open → (c : ℕ) × (pile.lega
 goes_on zero o = absurd (let z : ◌≡◌ {A = ℕ} 0 1 = cc in omega arith)
 goes_on (suc left) o = (1, and_from _ _ refl (le-leb 1 (suc left) (omega arith)))
 
-never_won : (b : Bool) (t : Side) → cond b Drawn Open ≢ Won t
+never_won : (b : Bool) (t : Side) → (if b then Drawn else Open) ≢ Won t
 never_won true t e = let z : ◌≡◌ {A = ℕ} 0 1 = cc in omega arith
 never_won false t e = let z : ◌≡◌ {A = ℕ} 0 1 = cc in omega arith
 

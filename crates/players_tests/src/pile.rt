@@ -23,7 +23,7 @@ impl Pile {
     pub fn new(counters: u16) -> Result<Pile, Refusal>
         ensures { Answers (pile_refusal counters) (λ p. (p.full ≡ counters) × (p.left ≡ counters)) result }
     {
-        if (counters < 1) | (counters > 9) {
+        if !(1..=Self::LONGEST).contains(&counters) {
             return Err(Refusal::Setting);
         }
         Ok(Pile {
@@ -38,9 +38,9 @@ impl Rules for Pile {
 
     const LONGEST: u16 = 9;
 
-    ghost codes = { 10 };
+    ghost CODES = { 10 };
 
-    ghost longest = { 9 };
+    ghost LONGEST = { 9 };
 
     ghost plan = { λ x. plan_of pile x.full };
 
@@ -50,20 +50,12 @@ impl Rules for Pile {
 
     ghost point = { λ x. point_of pile x.full x.left x.way };
 
-    fn code_count() -> u16 {
-        Self::CODES
-    }
-
-    fn longest_game() -> u16 {
-        Self::LONGEST
-    }
-
     fn reset(&mut self) {
         self.left = self.full;
     }
 
     fn make(&mut self, code: u16) -> bool {
-        let legal = (0 < code) & (code <= self.left);
+        let legal = (1..=self.left).contains(&code);
         if legal {
             self.left -= code;
         }

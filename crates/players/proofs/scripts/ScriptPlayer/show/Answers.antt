@@ -1,9 +1,9 @@
-use Rattle.std.proofs.Common.{◌/◌, ◌≤◌, length, refl, arith}
-use Rattle.players.proofs.Entries.{shown_past}
+use Rattle.std.proofs.Common.{arith}
+use Rattle.players_theory.proofs.Entries.{shown_past}
 use Rattle.players.proofs.scripts.ScriptPlayer.show.Goals as goal
 
-pub returns-else-self-len : goal.returns-else-self-len
-returns-else-self-len c =
+pub returns-else-self-len-clause-line : goal.returns-else-self-len-clause-line
+returns-else-self-len-clause-line c =
     let s = c.args.self.now in
-    let h : length s.codes.items ≤ s.shown / 2 = let e = s.codes.ok.0 in omega arith in
-    record { plan = refl; line = shown_past s.codes.items s.shown c.args._code h }
+    let long = s.codes.ok.0 in
+    shown_past s.codes.items s.shown c.args._code (omega arith)

@@ -1,18 +1,10 @@
-use Rattle.std.proofs.Common.{refl}
-use Rattle.std.proofs.lemmas.Bool.{cond-false, le-ltb}
-use Rattle.players.specs.Least.{plays_lowest, point_start}
+use Rattle.players_theory.proofs.Least.{plays_lowest, point_start}
 use Rattle.players.proofs.steppers.Stepper.new.Goals as goal
 
-pub returns : goal.returns
-returns g c =
-    let x = c.args.rules in
-    let law = g.met.R.Rules.lawful x in
-    let codes = g.R.Rules.codes in
-    let longest = g.R.Rules.longest in
-    let plan = g.R.Rules.plan x in
-    record {
-      plan = (cond-false _ _ _ (le-ltb 65533 c.args.step c.if-step-gt-MOST_STEP.false), refl);
-      line = refl;
-      lowest = plays_lowest codes longest c.args.step plan plan law (point_start codes longest plan law);
-      lowest_line = plays_lowest codes longest c.args.step plan (g.R.Rules.line x) law (g.met.R.Rules.point x);
-    }
+pub returns-clause-lowest : goal.returns-clause-lowest
+returns-clause-lowest g c =
+    let law = g.met.R.Rules.lawful c.args.rules in
+    plays_lowest _ _ c.args.step _ _ law (point_start _ _ _ law)
+
+pub returns-clause-lowest_line : goal.returns-clause-lowest_line
+returns-clause-lowest_line g c = plays_lowest _ _ c.args.step _ _ (g.met.R.Rules.lawful c.args.rules) (g.met.R.Rules.point c.args.rules)

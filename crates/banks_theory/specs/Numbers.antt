@@ -5,32 +5,26 @@
 --   place      whose a number of two banks is, as that bank counts
 --   at_place   what the bank whose number it is has there
 --   joined     the first bank's numbers, then the second's, and none from there or from 65,535 on
---   both_held  how many players two banks hold as one
---   both_at    what two banks have as one at each number
 --   listed     what each of some players has, by their order, and none past the last
 --   Seats      a player takes a number: that is the player's, and every other is as it was
 --   Joins      the first bank answers below its count, the second from there on, and nobody past both or from 65,535 on
---   Added      what adding a player leaves: one more at the end, or the player handed back and why
-use Rattle.std.specs.Prelude.{◌≡◌, ℕ, ◌+◌, ◌-◌, ◌<◌, ◌≤◌, min, cond, ◌≢◌, List, [], ◌∷◌, ◌++◌, map, length, Ok, Err, Result, ◌==◌, nat_lt, slice_index_or}
+use Rattle.std.specs.Prelude.{◌≡◌, ℕ, ◌+◌, ◌-◌, ◌<◌, ◌≤◌, min, if◌then◌else◌, ◌≢◌, List, map, ◌==◌, nat_lt, slice_index_or}
 use Rattle.side.specs.declared.Side.{Side}
 use Rattle.player.specs.Answers.{Answers, resigning}
-use Rattle.banks.specs.declared.two.Place.{Place}
-use Rattle.banks.specs.declared.two.Place.TheVariants.{Low, High, Nowhere}
-use Rattle.banks.specs.declared.two.TwoBanks.{TwoBanks}
-use Rattle.banks.specs.declared.many.Unseated.{Unseated}
-use Rattle.banks.specs.declared.many.Unseated.TheVariants.{Full, NoMemory}
+use Rattle.banks_theory.specs.declared.Place.{Place}
+use Rattle.banks_theory.specs.declared.Place.TheVariants.{Low, High, Nowhere}
 
 abbrev pub nobody : Side → Answers
 nobody seat = resigning
 
 abbrev pub only : {A : Type 0} → A → A → ℕ → A
-only it none k = cond (k == 0) it none
+only it none k = if k == 0 then it else none
 
 abbrev pub together : ℕ → ℕ → ℕ
 together n m = min (n + m) 65535
 
 abbrev pub place : ℕ → ℕ → ℕ → Place
-place n m k = cond (nat_lt k n) (Low k) (cond (nat_lt k (together n m)) (High (k - n)) Nowhere)
+place n m k = if nat_lt k n then Low k else if nat_lt k (together n m) then High (k - n) else Nowhere
 
 abbrev pub at_place : {A : Type 0} → (ℕ → A) → (ℕ → A) → A → Place → A
 at_place low high none (Low k) = low k
@@ -39,12 +33,6 @@ at_place low high none Nowhere = none
 
 abbrev pub joined : {A : Type 0} → ℕ → ℕ → (ℕ → A) → (ℕ → A) → A → ℕ → A
 joined n m low high none k = at_place low high none (place n m k)
-
-abbrev pub both_held : {X Y : Type 0} → (X → ℕ) → (Y → ℕ) → TwoBanks X Y → ℕ
-both_held held_low held_high b = together (held_low b.low) (held_high b.high)
-
-abbrev pub both_at : {X Y A : Type 0} → (X → ℕ) → (Y → ℕ) → (X → ℕ → A) → (Y → ℕ → A) → A → TwoBanks X Y → ℕ → A
-both_at held_low held_high of_low of_high none b = joined (held_low b.low) (held_high b.high) (of_low b.low) (of_high b.high) none
 
 abbrev pub listed : {P A : Type 0} → (P → A) → A → List P → ℕ → A
 listed of none players k = slice_index_or (map of players) k none
@@ -58,9 +46,3 @@ pub record Joins {A : Type 0} (n m : ℕ) (low high : ℕ → A) (none : A) (all
   pub second : (k : ℕ) → k < m → n + k < 65535 → all (n + k) ≡ high k
   pub past : (k : ℕ) → n + m ≤ k → all k ≡ none
   pub capped : (k : ℕ) → 65535 ≤ k → all k ≡ none
-
--- room: for how many players the bench has memory already
-abbrev pub Added : {P U : Type 0} → ℕ → List P → P → Result U (Unseated P) → List P → Type 0
-Added room before it (Ok u) after = (length before < 65535) × (after ≡ before ++ (it ∷ []))
-Added room before it (Err (Full back)) after = (65535 ≤ length before) × (back ≡ it) × (after ≡ before)
-Added room before it (Err (NoMemory back)) after = (length before < 65535) × (room ≤ length before) × (back ≡ it) × (after ≡ before)

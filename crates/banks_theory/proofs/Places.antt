@@ -1,10 +1,12 @@
 -- What the three ways of numbering players have at each number.
 use Rattle.std.specs.Prelude.{◌≡◌, ℕ, zero, suc, ◌<◌, ◌≤◌, ◌≢◌, List, [], ◌∷◌, ◌++◌, map, length, get_or, set, ◌==◌, nat_lt, slice_index_or, slice_set}
-use Rattle.std.proofs.Common.{sym, ap, ◌∙◌, inl, inr, arith}
+use Rattle.std.proofs.Common.{sym, ap, ◌∙◌, inl, inr, arith, lit≤}
 use Rattle.std.proofs.lemmas.List.{length-map, map-set, map_push, set-get_or, get_or-map, get_or_past, get_or-set_same, get_or-set_other, get_or_push, get_or_append_left, length_push}
 use Rattle.std.proofs.lemmas.Bool.{cond_both, cases_lt, ne_eqb, le-ltb, cond-false}
-use Rattle.banks.specs.declared.two.Place.TheVariants.{Low, High, Nowhere}
-use Rattle.banks.specs.Numbers.{only, together, place, at_place, joined, listed, Seats}
+use Rattle.side.specs.declared.Side.{Side}
+use Rattle.player.specs.Answers.{Answers, AreCodes, Absent, resigning}
+use Rattle.banks_theory.specs.declared.Place.TheVariants.{Low, High, Nowhere}
+use Rattle.banks_theory.specs.Numbers.{nobody, only, together, place, at_place, joined, listed, Seats}
 
 -- one player
 
@@ -40,12 +42,15 @@ module _ {P A : Type 0} (of : P → A) (none : A) where
   pub listed_at : (xs : List P) (i : ℕ) (x : P) → i < length xs → x ≡ slice_index_or xs i x → listed of none xs i ≡ of x
   listed_at xs i x h e = get_or-map of xs i x none h ∙ ap of (sym e)
 
+  pub listed_other : (xs : List P) (i k : ℕ) (p : P) → k ≢ i → listed of none (slice_set xs i p) k ≡ listed of none xs k
+  listed_other xs i k p ne = ap (λ (ys : List A). get_or ys k none) (map-set of xs i p) ∙ get_or-set_other (map of xs) i k (of p) none ne
+
   pub listed_set : (xs : List P) (i : ℕ) (p : P) → i < length xs → Seats i (of p) (listed of none xs) (listed of none (slice_set xs i p))
   listed_set xs i p h =
       let l : i < length (map of xs) = simp length-map h in
       record {
         own = ap (λ (ys : List A). get_or ys i none) (map-set of xs i p) ∙ get_or-set_same (map of xs) i (of p) none l;
-        others = λ k ne. ap (λ (ys : List A). get_or ys k none) (map-set of xs i p) ∙ get_or-set_other (map of xs) i k (of p) none ne;
+        others = λ k ne. listed_other xs i k p ne;
       }
 
   -- a player that keeps what it has leaves everyone's
@@ -71,3 +76,40 @@ module _ {P A : Type 0} (of : P → A) (none : A) where
                   listed_past ys k l ∙ sym (listed_past xs k (omega arith))
             ];
       }
+
+-- the laws of a bank: answers are codes, and who is not held resigns
+
+abbrev Coded : (Side → Answers) → Type 0
+Coded plan = (seat : Side) → AreCodes (plan seat)
+
+nobody_coded : Coded nobody
+nobody_coded seat w = lit≤ tt
+
+absent : {plan : Side → Answers} {line : Answers} → plan ≡ nobody → line ≡ resigning → Absent plan line
+absent e f = record { at_seat = λ seat. ap (λ (plan : Side → Answers). plan seat) e; at_point = f }
+
+pub only_coded : (plan : Side → Answers) → ((seat : Side) → AreCodes (plan seat)) → (k : ℕ) (seat : Side) → AreCodes (only plan nobody k seat)
+only_coded plan a = only_all Coded plan nobody a nobody_coded
+
+pub only_absent : (plan : Side → Answers) (line : Answers) (k : ℕ) → 1 ≤ k → Absent (only plan nobody k) (only line resigning k)
+only_absent plan line k h =
+    let ne : k ≢ 0 = omega arith in
+    absent (only_else plan nobody k ne) (only_else line resigning k ne)
+
+pub joined_coded : (n m : ℕ) (low high : ℕ → Side → Answers) → ((k : ℕ) (seat : Side) → AreCodes (low k seat)) → ((k : ℕ) (seat : Side) → AreCodes (high k seat)) → (k : ℕ) (seat : Side) → AreCodes (joined n m low high nobody k seat)
+joined_coded n m low high a b = joined_all Coded n m low high nobody a b nobody_coded
+
+pub joined_absent : (n m : ℕ) (low high : ℕ → Side → Answers) (low_line high_line : ℕ → Answers) → n ≤ 65535 → (k : ℕ) → together n m ≤ k → Absent (joined n m low high nobody k) (joined n m low_line high_line resigning k)
+joined_absent n m low high low_line high_line few k h = absent (joined_past n m low high nobody few k h) (joined_past n m low_line high_line resigning few k h)
+
+pub listed_coded : {P : Type 0} (plan : P → Side → Answers) → ((p : P) (seat : Side) → AreCodes (plan p seat)) → (xs : List P) (k : ℕ) (seat : Side) → AreCodes (listed plan nobody xs k seat)
+listed_coded plan a = listed_all plan nobody Coded a nobody_coded
+
+-- n: how many they are, as a list's own count of them
+pub listed_absent : {P : Type 0} (plan : P → Side → Answers) (line : P → Answers) (xs : List P) (n : ℕ) → n ≡ length xs → (k : ℕ) → n ≤ k → Absent (listed plan nobody xs k) (listed line resigning xs k)
+listed_absent plan line xs n e k h =
+    let past : length xs ≤ k = omega arith in
+    absent (listed_past plan nobody xs k past) (listed_past line resigning xs k past)
+
+-- what a player's turn leaves at its own number and at the others
+pub ruleset seats = (listed_at, listed_set, listed_other)

@@ -1,57 +1,38 @@
 -- The lowest legal code, for every rules that keep their laws.
-use Rattle.std.specs.Prelude.{◌≡◌, ℕ, zero, suc, ◌+◌, ◌-◌, ◌<◌, ◌≤◌, Bool, true, false, cond, List, [], ◌∷◌, ◌++◌, Some, None, Option, MatchOption, refl}
+use Rattle.std.specs.Prelude.{◌≡◌, ℕ, zero, suc, ◌+◌, ◌-◌, ◌<◌, ◌≤◌, Bool, true, false, if◌then◌else◌, List, [], ◌∷◌, ◌++◌, Some, None, Option, MatchOption, refl}
 use Rattle.std.proofs.Common.{sym, ap, ◌∙◌, inl, inr, append_assoc, arith, lit≤}
 use Rattle.std.proofs.Math.Path.{fun_ext}
 use Rattle.std.proofs.Math.Logic.{∥∥₁_elim, ∥∥₁_map}
 use mathlib.Core.HLevel.{⊥_prop}
-use Rattle.std.specs.List.{AllByRecursion}
+use Rattle.std.specs.List.{AllByRecursion, find, range_with_len}
 use Rattle.std.specs.Option.{unwrap_or}
 use Rattle.std.proofs.lemmas.Bool.{cases_lt, cases_eq, cases_Bool}
+use Rattle.player.specs.Answers.{AreCodes}
 use Rattle.rules.specs.Plans.{RulesPlan, Lawful, PointOf, after_codes, made}
-use Rattle.players.specs.Steps.{shown_to, first_legal, lowest, stepped, stepper_answers, LowestFrom, NoneFrom, Steps, PlaysLowest}
+use Rattle.players_theory.specs.Steps.{shown_to, lowest, stepped, stepper_answers, LowestFrom, NoneFrom, Steps, PlaysLowest}
 
 -- what a search of n codes found
 abbrev pub Found : RulesPlan → ℕ → ℕ → Option ℕ → Type 0
 Found p from n o = MatchOption o ((d : ℕ) → from ≤ d → d < from + n → p.legal (d ∷ []) ≡ false) (λ c. (c < from + n) × LowestFrom p from c)
 
-found_step : (p : RulesPlan) (from n : ℕ) (b : Bool) → p.legal (from ∷ []) ≡ b → (o : Option ℕ) → Found p (suc from) n o → Found p from (suc n) (cond b (Some from) o)
+not_below : (p : RulesPlan) (from end : ℕ) → p.legal (from ∷ []) ≡ false → ((d : ℕ) → from + 1 ≤ d → d < end → p.legal (d ∷ []) ≡ false) → (d : ℕ) → from ≤ d → d < end → p.legal (d ∷ []) ≡ false
+not_below p from end e f d l h = elim (cases_eq d from) [ inl s ↦ ap (λ (c : ℕ). p.legal (c ∷ [])) s ∙ e | inr s ↦ f d (omega arith) h ]
+
+found_step : (p : RulesPlan) (from n : ℕ) (b : Bool) → p.legal (from ∷ []) ≡ b → (o : Option ℕ) → Found p (from + 1) n o → Found p from (suc n) (if b then Some from else o)
 found_step p from n true e o f = (omega arith, (omega arith, e, λ d l h. absurd (omega arith)))
-found_step p from n false e None f =
-    λ d l h. elim (cases_eq d from) [
-      | inl s ↦ ap (λ (c : ℕ). p.legal (c ∷ [])) s ∙ e
-      | inr s ↦ f d (omega arith) (omega arith)
-    ]
-found_step p from n false e (Some c) f =
-    let lt = f.0 in
-    let low = f.1.0 in (
-      omega arith,
-      (
-        omega arith,
-        f.1.1,
-        λ d l h.
-            elim (cases_eq d from) [
-              | inl s ↦ ap (λ (c : ℕ). p.legal (c ∷ [])) s ∙ e
-              | inr s ↦ f.1.2 d (omega arith) h
-            ],
-      ),
-    )
+found_step p from n false e None f = λ d l h. not_below p from (from + 1 + n) e f d l (omega arith)
+found_step p from n false e (Some c) f = let lt = f.0 in let low = f.1.0 in (omega arith, (omega arith, f.1.1, not_below p from c e f.1.2))
 
-pub found : (p : RulesPlan) (from n : ℕ) → Found p from n (first_legal p from n)
-unfolding first_legal
+pub found : (p : RulesPlan) (from n : ℕ) → Found p from n (find (λ code. p.legal (code ∷ [])) (range_with_len from n))
 found p from zero = λ d l h. absurd (omega arith)
-found p from (suc n) = found_step p from n (p.legal (from ∷ [])) refl (first_legal p (suc from) n) (found p (suc from) n)
+found p from (suc n) = found_step p from n (p.legal (from ∷ [])) refl _ (found p (from + 1) n)
 
--- the loop's step and its end
-pub lowest_more : (p : RulesPlan) (code codes : ℕ) → code < codes → lowest codes p code ≡ cond (p.legal (code ∷ [])) (Some code) (lowest codes p (code + 1))
-unfolding first_legal
-lowest_more p code codes h =
-    let a : codes - code ≡ suc (codes - (code + 1)) = omega arith in
-    let b : suc code ≡ code + 1 = omega arith in
-    ap (first_legal p code) a ∙ ap (λ (n : ℕ). cond (p.legal (code ∷ [])) (Some code) (first_legal p n (codes - (code + 1)))) b
+-- how the search goes on, and where it ends
+pub lowest_more : (p : RulesPlan) (code codes : ℕ) → code < codes → lowest codes p code ≡ (if p.legal (code ∷ []) then Some code else lowest codes p (code + 1))
+lowest_more p code codes h = let a : codes - code ≡ suc (codes - (code + 1)) = omega arith in ap (λ (n : ℕ). find (λ c. p.legal (c ∷ [])) (range_with_len code n)) a
 
 pub lowest_none : (p : RulesPlan) (code codes : ℕ) → codes ≤ code → lowest codes p code ≡ None
-unfolding first_legal
-lowest_none p code codes h = let a : codes - code ≡ 0 = omega arith in ap (first_legal p code) a
+lowest_none p code codes h = let a : codes - code ≡ 0 = omega arith in ap (λ (n : ℕ). find (λ c. p.legal (c ∷ [])) (range_with_len code n)) a
 
 -- answers are codes
 
@@ -67,9 +48,12 @@ stepped_code codes step p few =
     code_of codes step p (lowest codes p step) _ few (found p step (codes - step))
     (code_of codes 0 p (lowest codes p 0) 65534 few (found p 0 (codes - 0)) (lit≤ tt))
 
+pub stepper_coded : {codes longest : ℕ} (step : ℕ) {plan : RulesPlan} → Lawful codes longest plan → AreCodes (stepper_answers codes step plan)
+stepper_coded {codes} step {plan} law w = stepped_code codes step (shown_to plan w) law.few
+
 -- a line of the rules as codes are shown
 
-point_made : (plan p : RulesPlan) (c : ℕ) (b : Bool) → p.legal (c ∷ []) ≡ b → PointOf plan p → PointOf plan (cond b (after_codes p (c ∷ [])) p)
+point_made : (plan p : RulesPlan) (c : ℕ) (b : Bool) → p.legal (c ∷ []) ≡ b → PointOf plan p → PointOf plan (if b then after_codes p (c ∷ []) else p)
 point_made plan p c false e point = point
 point_made plan p c true e point =
     ∥∥₁_map point (λ x.

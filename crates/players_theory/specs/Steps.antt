@@ -1,6 +1,5 @@
 -- What a stepper answers, over any rules.
 --   shown_to         the rest of the rules' plan once some codes are shown; illegal ones are passed over
---   first_legal      of n codes from one on, the lowest legal one, if there is any
 --   lowest           the lowest legal code from one on, below the rules' number of codes
 --   stepped          the lowest legal code from the step on, else the lowest legal code, else 65,534
 --   stepper_answers  what a stepper answers after each list of codes shown
@@ -9,7 +8,8 @@
 --   NoneFrom         no code from one on is legal
 --   Steps            the answer is the lowest legal code from the step on; or there is none, and it is the lowest legal one; or none is legal, and it is 65,534
 --   PlaysLowest      such is each answer, after each list of codes shown
-use Rattle.std.specs.Prelude.{◌≡◌, ℕ, zero, suc, ◌-◌, ◌<◌, ◌≤◌, true, false, cond, ◌⊎◌, List, [], ◌∷◌, Some, None, Option, nat_lt}
+use Rattle.std.specs.Prelude.{◌≡◌, ℕ, ◌-◌, ◌<◌, ◌≤◌, true, false, if◌then◌else◌, ◌⊎◌, List, [], ◌∷◌, Some, None, Option, nat_lt}
+use Rattle.std.specs.List.{find, range_with_len}
 use Rattle.std.specs.Option.{unwrap_or}
 use Rattle.player.specs.Answers.{Answers}
 use Rattle.rules.specs.Plans.{RulesPlan, made}
@@ -18,12 +18,8 @@ abbrev pub shown_to : RulesPlan → List ℕ → RulesPlan
 shown_to p [] = p
 shown_to p (c ∷ w) = shown_to (made p c) w
 
-unfoldable pub first_legal : RulesPlan → ℕ → ℕ → Option ℕ
-first_legal p from zero = None
-first_legal p from (suc n) = cond (p.legal (from ∷ [])) (Some from) (first_legal p (suc from) n)
-
 abbrev pub lowest : ℕ → RulesPlan → ℕ → Option ℕ
-lowest codes p from = first_legal p from (codes - from)
+lowest codes p from = find (λ code. p.legal (code ∷ [])) (range_with_len from (codes - from))
 
 abbrev pub stepped : ℕ → ℕ → RulesPlan → ℕ
 stepped codes step p = unwrap_or (lowest codes p step) (unwrap_or (lowest codes p 0) 65534)
@@ -32,7 +28,7 @@ abbrev pub stepper_answers : ℕ → ℕ → RulesPlan → Answers
 stepper_answers codes step p w = stepped codes step (shown_to p w)
 
 abbrev pub stepper_refusal : ℕ → Option ℕ
-stepper_refusal step = cond (nat_lt 65533 step) (Some 10) None
+stepper_refusal step = if nat_lt 65533 step then Some 10 else None
 
 abbrev pub LowestFrom : RulesPlan → ℕ → ℕ → Type 0
 LowestFrom p from c = (from ≤ c) × (p.legal (c ∷ []) ≡ true) × ((d : ℕ) → from ≤ d → d < c → p.legal (d ∷ []) ≡ false)

@@ -1,0 +1,2 @@
+// What the players answer, and what follows from that. The code that plays stands above this crate.
+#![tactic(auto)]
