@@ -1,32 +1,30 @@
--- One turn more of a walk through turns.
-use Rattle.std.proofs.Common.{◌≡◌, ℕ, ◌+◌, ◌<◌, List, length, get_or, drop, sym, ap, ◌∙◌}
-use Rattle.std.proofs.lemmas.List.{at_drop_more}
+-- Where a walk through turns stands.
+--   Walking   after i of the turns, those that are left lead from lines x and a side to where all lead from the start
+use Rattle.std.proofs.Common.{◌≡◌, ℕ, ◌+◌, ◌<◌, ◌≤◌, List, length, get_or, drop, sym, refl, ap, ◌∙◌}
+use Rattle.std.proofs.lemmas.List.{at_drop_more, at_drop_all}
 use Rattle.side.specs.declared.Side.{Side}
+use Rattle.side.specs.declared.Side.TheVariants.{First}
 use Rattle.side.specs.TwoSides.{opponent}
 use Rattle.verdict.specs.declared.Turn.{Turn}
 use Rattle.meaning.specs.Turns.{mover}
-use Rattle.clock.specs.Times.{Times}
-use Rattle.rules.specs.Plans.{RulesPlan}
-use Rattle.player.specs.Answers.{Answers}
-use Rattle.desk.specs.Lines.{Lines, planned, followed, walked}
+use Rattle.desk.specs.Lines.{Lines, followed, walked}
 
-pub walked_more : (x y : Lines) (s s' : Side) (ts : List Turn) (i : ℕ) (d : Turn) → i < length ts → y ≡ followed x s (get_or ts i d) → s' ≡ opponent s → walked y s' (drop (i + 1) ts) ≡ walked x s (drop i ts)
-walked_more x y s s' ts i d h ey es =
-    ap (λ (z : Lines). walked z s' (drop (i + 1) ts)) ey
-    ∙ ap (λ (z : Side). walked (followed x s (get_or ts i d)) z (drop (i + 1) ts)) es
-    ∙ sym (at_drop_more (walked x s) ts i d h)
+pub record Walking (start : Lines) (ts : List Turn) (i : ℕ) (x : Lines) (side : Side) : Type 0 where
+  pub to_move : mover side (drop i ts) ≡ mover First ts
+  pub lines : walked x side (drop i ts) ≡ walked start First ts
 
-pub mover_more : (s s' : Side) (ts : List Turn) (i : ℕ) (d : Turn) → i < length ts → s' ≡ opponent s → mover s' (drop (i + 1) ts) ≡ mover s (drop i ts)
-mover_more s s' ts i d h es = ap (λ (z : Side). mover z (drop (i + 1) ts)) es ∙ sym (at_drop_more (mover s) ts i d h)
+abbrev no_turn : Turn
+no_turn = record { code = 0; reading = 0 }
 
-abbrev lines : RulesPlan → Times → Answers → Answers → Lines
-lines r c f s = record { point = record { rules = r; clock = c }; first = f; second = s }
+pub walking_none : (start x : Lines) (ts : List Turn) → x ≡ start → Walking start ts 0 x First
+walking_none start x ts e = record { to_move = refl; lines = ap (λ (y : Lines). walked y First ts) e }
 
-pub lines_same : {r r' : RulesPlan} {c c' : Times} {f f' s s' : Answers} → r ≡ r' → c ≡ c' → f ≡ f' → s ≡ s'
-    → lines r c f s ≡ lines r' c' f' s'
-lines_same {r} {r'} {c} {c'} {f} {f'} {s} {s'} er ec ef es =
-    ap (λ (z : RulesPlan). lines z c f s) er ∙ ap (λ (z : Times). lines r' z f s) ec ∙ ap (λ (z : Answers). lines r' c' z s) ef ∙ ap (λ (z : Answers). lines r' c' f' z) es
+pub walking_more : {start : Lines} {ts : List Turn} {i : ℕ} {x : Lines} {side : Side} (x' : Lines) (side' : Side)
+    → Walking start ts i x side → i < length ts → x' ≡ followed x side (get_or ts i no_turn) → side' ≡ opponent side → Walking start ts (i + 1) x' side'
+walking_more {start} {ts} {i} {x} {side} x' side' w h ex es = record {
+  to_move = ap (λ (s : Side). mover s (drop (i + 1) ts)) es ∙ sym (at_drop_more (mover side) ts i no_turn h) ∙ w.to_move;
+  lines = (λ j. walked (ex j) (es j) (drop (i + 1) ts)) ∙ sym (at_drop_more (walked x side) ts i no_turn h) ∙ w.lines;
+}
 
-pub plans_same : {r r' : RulesPlan} {c c' : Times} {b b' : ℕ → Side → Answers} → r ≡ r' → c ≡ c' → b ≡ b' → planned r c b ≡ planned r' c' b'
-plans_same {r} {r'} {c} {c'} {b} {b'} er ec eb =
-    ap (λ (z : RulesPlan). planned z c b) er ∙ ap (λ (z : Times). planned r' z b) ec ∙ ap (λ (z : ℕ → Side → Answers). planned r' c' z) eb
+pub walking_all : {start : Lines} {ts : List Turn} {i : ℕ} {x : Lines} {side : Side} → Walking start ts i x side → length ts ≤ i → (side ≡ mover First ts) × (x ≡ walked start First ts)
+walking_all {start} {ts} {i} {x} {side} w h = (sym (at_drop_all (mover side) ts i h) ∙ w.to_move, sym (at_drop_all (walked x side) ts i h) ∙ w.lines)

@@ -1,6 +1,5 @@
 -- The lines of a game's rules, clock and two players, and how its turns move them.
 --   Lines       what rules and clock say, and both players answer, from the present point on
---   lined       the lines that rules, clock and bank have for two players
 --   at_start    every line is its plan
 --   followed    a turn as it stands is spent, made and shown to both
 --   walked      the same for several, the sides taking turns
@@ -11,7 +10,6 @@ use Rattle.std.specs.Prelude.{◌≡◌, ℕ, true, List, [], ◌∷◌, length}
 use Rattle.side.specs.declared.Side.{Side}
 use Rattle.side.specs.declared.Side.TheVariants.{First, Second}
 use Rattle.side.specs.TwoSides.{opponent, pick}
-use Rattle.clock.specs.Times.{Times}
 use Rattle.rules.specs.Plans.{RulesPlan, after_codes}
 use Rattle.player.specs.Answers.{Answers, shown}
 use Rattle.verdict.specs.declared.Turn.{Turn}
@@ -25,14 +23,8 @@ pub record Lines : Type 0 where
   pub first : Answers
   pub second : Answers
 
-abbrev pub planned : RulesPlan → Times → (ℕ → Side → Answers) → Plans
-planned r c b = record { rules = r; clock = c; bank = b }
-
-abbrev pub lined : RulesPlan → Times → (ℕ → Answers) → Opponents → Lines
-lined r c b both = record { point = record { rules = r; clock = c }; first = b both.first; second = b both.second }
-
 abbrev pub at_start : Plans → Opponents → Lines
-at_start p both = record { point = record { rules = p.rules; clock = p.clock }; first = p.bank both.first First; second = p.bank both.second Second }
+at_start p both = record { point = record { rules = p.rules; clock = p.clock }; first = p.bank both.numbers.first First; second = p.bank both.numbers.second Second }
 
 abbrev pub followed : Lines → Side → Turn → Lines
 followed x side t = record { point = past_turn x.point side t; first = shown x.first t.code; second = shown x.second t.code }

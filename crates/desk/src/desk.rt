@@ -1,5 +1,5 @@
 // Rules, clock and bank, as one game's turns are gone through and made.
-ghost use Rattle.std.specs.Prelude.{◌≡◌, [], if◌then◌else◌, nat_eq};
+ghost use Rattle.std.specs.Prelude.{◌≡◌, [], if◌then◌else◌, ◌==◌};
 ghost use Rattle.side.specs.declared.Side.TheVariants.{First};
 ghost use Rattle.side.specs.TwoSides.{opponent};
 ghost use Rattle.rules.specs.Plans.{made};
@@ -7,7 +7,8 @@ ghost use Rattle.player.specs.Answers.{shown};
 ghost use Rattle.verdict.specs.declared.Outcome.TheVariants.{WonBy, Drawn};
 ghost use Rattle.entry.specs.declared.Event.TheVariants.{Resignation, Illegal, Move};
 ghost use Rattle.meaning.specs.Turns.{mover};
-ghost use Rattle.desk.specs.Lines.{planned, lined, at_start, followed, walked, made_of, Way};
+ghost use Rattle.desk.specs.Lines.{at_start, followed, walked, made_of, Way};
+ghost use Rattle.desk.specs.Desks.{plans_of, lines_of};
 
 use crate::opponents::Opponents;
 use clock::Clock;
@@ -18,7 +19,7 @@ use side::Side;
 use verdict::{NO_MOVE, Outcome, Turn};
 
 // A turn, and what happens in it.
-#[derive(Clone, Copy)]
+#[derive(Clone, Copy, PartialEq, Eq, Debug)]
 pub struct Made {
     pub turn: Turn,
     pub event: Event,
@@ -32,8 +33,9 @@ pub struct Desk<R, C, B> {
 }
 
 // What an answer in time is; `legal` says whether the rules have made it.
+// Not an `Option` of a legal code: a resignation is told by its code, and no rules make it.
 pub fn answer_event<R: Rules>(rules: &R, side: Side, code: u16, legal: bool) -> Event
-    ensures { result ≡ (if nat_eq code 65534 then Resignation (opponent side) else (if legal then Move ((R.Rules.line rules.now).status []) else Illegal (opponent side))) }
+    ensures { result ≡ (if code == 65534 then Resignation (opponent side) else if legal then Move ((R.line rules.now).status []) else Illegal (opponent side)) }
 {
     if code == RESIGNS {
         Event::Resignation(side.other())
@@ -46,7 +48,7 @@ pub fn answer_event<R: Rules>(rules: &R, side: Side, code: u16, legal: bool) -> 
 
 // Whom a fallen flag of the side gives the game to.
 pub fn flag_outcome<R: Rules>(rules: &R, side: Side) -> Outcome
-    ensures { result ≡ (if (R.Rules.line rules.now).chance [] (opponent side) then WonBy (opponent side) else Drawn) }
+    ensures { result ≡ (if (R.line rules.now).chance [] (opponent side) then WonBy (opponent side) else Drawn) }
 {
     let rival = side.other();
     if rules.chance(rival) {
@@ -58,39 +60,41 @@ pub fn flag_outcome<R: Rules>(rules: &R, side: Side) -> Outcome
 
 // Makes a code again, while the rules allow more: no game has more codes than its rules' longest.
 fn remake<R: Rules>(rules: &mut R, code: u16, count: u16) -> u16
-    requires { Way (R.Rules.plan rules.old) (R.Rules.line rules.old) count }
-    ensures plan { R.Rules.plan rules.new ≡ R.Rules.plan rules.old }
-    ensures line { R.Rules.line rules.new ≡ made (R.Rules.line rules.old) code }
-    ensures way { Way (R.Rules.plan rules.new) (R.Rules.line rules.new) result }
+    requires { Way (R.plan rules.old) (R.line rules.old) count }
+    ensures plan { R.plan rules.new ≡ R.plan rules.old }
+    ensures line { R.line rules.new ≡ made (R.line rules.old) code }
+    ensures way { Way (R.plan rules.new) (R.line rules.new) result }
 {
-    if count >= R::longest_game() {
-        return count;
+    if count < R::LONGEST && rules.make(code) {
+        count + 1
+    } else {
+        count
     }
-    if rules.make(code) { count + 1 } else { count }
 }
 
 impl<R: Rules, C: Clock, B: Bank> Desk<R, C, B> {
     fn show(&mut self, both: Opponents, code: u16)
-        ensures plans { planned (R.Rules.plan self.new.rules) (C.Clock.plan self.new.clock) (B.Bank.plan self.new.bank) ≡ planned (R.Rules.plan self.old.rules) (C.Clock.plan self.old.clock) (B.Bank.plan self.old.bank) }
+        ensures plans { plans_of R.plan C.plan B.plan self.new ≡ plans_of R.plan C.plan B.plan self.old }
         ensures rules { self.new.rules ≡ self.old.rules }
         ensures clock { self.new.clock ≡ self.old.clock }
-        ensures first { B.Bank.line self.new.bank both.first ≡ shown (B.Bank.line self.old.bank both.first) code }
-        ensures second { B.Bank.line self.new.bank both.second ≡ shown (B.Bank.line self.old.bank both.second) code }
+        ensures first { B.line self.new.bank both.numbers.first ≡ shown (B.line self.old.bank both.numbers.first) code }
+        ensures second { B.line self.new.bank both.numbers.second ≡ shown (B.line self.old.bank both.numbers.second) code }
     {
-        self.bank.show(both.first, code);
-        self.bank.show(both.second, code);
+        self.bank.show(both.numbers.first, code);
+        self.bank.show(both.numbers.second, code);
     }
 
     // Resets all and goes through a game's turns as they stand; answers the side then to move.
     pub fn replay(&mut self, both: Opponents, turns: &[Turn]) -> Side
-        ensures plans { planned (R.Rules.plan self.new.rules) (C.Clock.plan self.new.clock) (B.Bank.plan self.new.bank) ≡ planned (R.Rules.plan self.old.rules) (C.Clock.plan self.old.clock) (B.Bank.plan self.old.bank) }
-        ensures lines { lined (R.Rules.line self.new.rules) (C.Clock.line self.new.clock) (B.Bank.line self.new.bank) both ≡ walked (at_start (planned (R.Rules.plan self.old.rules) (C.Clock.plan self.old.clock) (B.Bank.plan self.old.bank)) both) First turns.now }
+        ensures plans { plans_of R.plan C.plan B.plan self.new ≡ plans_of R.plan C.plan B.plan self.old }
+        ensures lines { lines_of R.line C.line B.line self.new both ≡ walked (at_start (plans_of R.plan C.plan B.plan self.old) both) First turns.now }
         ensures mover { result ≡ mover First turns.now }
     {
         self.rules.reset();
         self.clock.reset();
-        self.bank.reset(both.first, Side::First);
-        self.bank.reset(both.second, Side::Second);
+        self.bank.reset(both.numbers.first, Side::First);
+        self.bank.reset(both.numbers.second, Side::Second);
+        // No `zip` with sides: the side after the last turn is the answer, and `count` stays where a code is not legal.
         let mut side = Side::First;
         let mut count = 0;
         for turn in turns {
@@ -104,26 +108,20 @@ impl<R: Rules, C: Clock, B: Bank> Desk<R, C, B> {
 
     // One turn from the present point.
     pub fn turn(&mut self, both: Opponents, side: Side, reading: u32) -> Made
-        ensures plans { planned (R.Rules.plan self.new.rules) (C.Clock.plan self.new.clock) (B.Bank.plan self.new.bank) ≡ planned (R.Rules.plan self.old.rules) (C.Clock.plan self.old.clock) (B.Bank.plan self.old.bank) }
-        ensures made { result ≡ made_of (lined (R.Rules.line self.old.rules) (C.Clock.line self.old.clock) (B.Bank.line self.old.bank) both) side reading }
-        ensures lines { lined (R.Rules.line self.new.rules) (C.Clock.line self.new.clock) (B.Bank.line self.new.bank) both ≡ followed (lined (R.Rules.line self.old.rules) (C.Clock.line self.old.clock) (B.Bank.line self.old.bank) both) side result.turn }
+        ensures plans { plans_of R.plan C.plan B.plan self.new ≡ plans_of R.plan C.plan B.plan self.old }
+        ensures made { result ≡ made_of (lines_of R.line C.line B.line self.old both) side reading }
+        ensures lines { lines_of R.line C.line B.line self.new both ≡ followed (lines_of R.line C.line B.line self.old both) side result.turn }
     {
-        if !self.clock.spend(side, reading) {
+        let (code, event) = if self.clock.spend(side, reading) {
+            let code = self.bank.choose(both.of(side));
+            let legal = self.rules.make(code);
+            (code, answer_event(&self.rules, side, code, legal))
+        } else {
             let event = Event::Flag(flag_outcome(&self.rules, side));
             let _ = self.rules.make(NO_MOVE);
-            self.show(both, NO_MOVE);
-            return Made {
-                turn: Turn {
-                    code: NO_MOVE,
-                    reading,
-                },
-                event,
-            };
-        }
-        let code = self.bank.choose(both.of(side));
-        let legal = self.rules.make(code);
+            (NO_MOVE, event)
+        };
         self.show(both, code);
-        let event = answer_event(&self.rules, side, code, legal);
         Made {
             turn: Turn { code, reading },
             event,

@@ -1,37 +1,35 @@
 // The two players of a game.
-ghost use Rattle.std.specs.Prelude.{◌≡◌, ◌≢◌, Some, None};
-ghost use Rattle.side.specs.TwoSides.{pick};
+ghost use Rattle.std.specs.Prelude.{◌≡◌, ◌≢◌, MatchOption};
+ghost use Rattle.side.specs.TwoSides.{of_side};
 
 use side::{PerSide, Side};
 
 // By their numbers in the bank; nobody plays against itself.
 #[derive(Clone, Copy)]
 pub struct Opponents {
-    pub(crate) first: usize,
-    pub(crate) second: usize,
-    ghost apart: { first ≢ second },
+    pub(crate) numbers: PerSide<usize>,
+    ghost apart: { numbers.first ≢ numbers.second },
 }
 
 impl Opponents {
     pub fn new(seats: PerSide<u8>) -> Option<Opponents>
-        ensures { elim result [ Some both ↦ (both.first ≡ seats.first) × (both.second ≡ seats.second) | None ↦ seats.first ≡ seats.second ] }
+        ensures { MatchOption result (seats.first ≡ seats.second) (λ both. both.numbers ≡ seats) }
     {
         if seats.first == seats.second {
             None
         } else {
             Some(Opponents {
-                first: seats.first as usize,
-                second: seats.second as usize,
+                numbers: PerSide {
+                    first: usize::from(seats.first),
+                    second: usize::from(seats.second),
+                },
             })
         }
     }
 
     pub fn of(self, side: Side) -> usize
-        ensures { result ≡ pick side self.first self.second }
+        ensures { result ≡ of_side side self.numbers }
     {
-        match side {
-            Side::First => self.first,
-            Side::Second => self.second,
-        }
+        *self.numbers.of(side)
     }
 }

@@ -3,7 +3,7 @@ use clock::Clock;
 use clocks::{Plain, Timer, TwoTimers};
 use desk::desk::Desk;
 use desk::opponents::Opponents;
-use entry::{Event, State};
+use entry::Event;
 use nim::Nim;
 use players::Script;
 use rules::Status;
@@ -15,42 +15,43 @@ use verdict::{Outcome, Turn, Verdict, standing_number};
 
 type Table = Desk<Nim, TwoTimers<Plain>, TwoBanks<Alone<Script>, Alone<Script>>>;
 
-fn sits(entrants: u8, game: usize, first: u8, second: u8) -> bool {
-    match seats(entrants, game) {
-        Some(seats) => (seats.first == first) & (seats.second == second),
-        None => false,
-    }
-}
-
-fn meets(entrants: u8, low: u8, high: u8, game: usize) -> bool {
-    match game_of(entrants, low, high) {
-        Some(found) => found == game,
-        None => false,
-    }
+fn pair(first: u8, second: u8) -> PerSide<u8> {
+    PerSide { first, second }
 }
 
 #[test]
 fn three_entrants(rt: HostRuntime) {
     assert_eq!(rt; games(3), 3);
-    assert!(rt; sits(3, 0, 0, 1) & sits(3, 1, 2, 0) & sits(3, 2, 1, 2));
-    assert!(rt; meets(3, 0, 1, 0) & meets(3, 0, 2, 1) & meets(3, 1, 2, 2));
+    assert_eq!(rt; seats(3, 0), Some(pair(0, 1)));
+    assert_eq!(rt; seats(3, 1), Some(pair(2, 0)));
+    assert_eq!(rt; seats(3, 2), Some(pair(1, 2)));
+    assert_eq!(rt; game_of(3, 0, 1), Some(0));
+    assert_eq!(rt; game_of(3, 0, 2), Some(1));
+    assert_eq!(rt; game_of(3, 1, 2), Some(2));
 }
 
 #[test]
 fn sixteen_entrants(rt: HostRuntime) {
     assert_eq!(rt; games(16), 120);
-    assert!(rt; sits(16, 119, 14, 15) & meets(16, 14, 15, 119));
-    assert!(rt; sits(16, 14, 0, 15) & sits(16, 15, 1, 2) & meets(16, 1, 2, 15));
+    assert_eq!(rt; seats(16, 119), Some(pair(14, 15)));
+    assert_eq!(rt; game_of(16, 14, 15), Some(119));
+    assert_eq!(rt; seats(16, 14), Some(pair(0, 15)));
+    assert_eq!(rt; seats(16, 15), Some(pair(1, 2)));
+    assert_eq!(rt; game_of(16, 1, 2), Some(15));
 }
 
 #[test]
 fn no_such_game(rt: HostRuntime) {
     assert_eq!(rt; games(0), 0);
     assert_eq!(rt; games(1), 0);
-    assert!(rt; matches!(seats(3, 3), None) & matches!(seats(2, 0xffff_ffff), None));
-    assert!(rt; matches!(seats(1, 0), None) & matches!(seats(17, 0), None));
-    assert!(rt; matches!(game_of(3, 1, 1), None) & matches!(game_of(3, 2, 1), None));
-    assert!(rt; matches!(game_of(3, 1, 3), None) & matches!(game_of(17, 0, 1), None));
+    assert_eq!(rt; seats(3, 3), None);
+    assert_eq!(rt; seats(2, 0xffff_ffff), None);
+    assert_eq!(rt; seats(1, 0), None);
+    assert_eq!(rt; seats(17, 0), None);
+    assert_eq!(rt; game_of(3, 1, 1), None);
+    assert_eq!(rt; game_of(3, 2, 1), None);
+    assert_eq!(rt; game_of(3, 1, 3), None);
+    assert_eq!(rt; game_of(17, 0, 1), None);
 }
 
 fn alone(heap: Global, code: u16) -> Result<Alone<Script>, AllocError> {
@@ -70,36 +71,22 @@ fn table(heap: Global, first: u16, second: u16) -> Result<Table, Fail> {
 
 // The verdict's number after an event in an open game, 0 while it goes on.
 fn number_after(event: Event, last: bool) -> u8 {
-    standing_number(State::Open.after(event, last).standing())
+    standing_number(event.settle(None, last))
 }
 
-fn two() -> Option<Opponents> {
-    Opponents::new(PerSide {
-        first: 0,
-        second: 1,
-    })
+fn two() -> Result<Opponents, Fail> {
+    Opponents::new(pair(0, 1)).ok_or_else(|| Fail::new("players 0 and 1 are the same"))
 }
 
 #[test]
 fn nobody_plays_itself(rt: HostRuntime) {
-    assert!(rt;
-        matches!(
-            Opponents::new(PerSide {
-                first: 7,
-                second: 7
-            }),
-            None
-        )
-    );
+    assert!(rt; Opponents::new(pair(7, 7)).is_none());
 }
 
 #[test]
 fn second_takes_the_last(rt: HostRuntime) -> Result<(), Fail> {
     let mut desk = table(rt.alloc(), 1, 33)?;
-    let Some(both) = two() else {
-        assert!(rt; false);
-        return Ok(());
-    };
+    let both = two()?;
     assert_eq!(rt; desk.replay(both, &[]), Side::First);
     let made = desk.turn(both, Side::First, 5);
     assert_eq!(rt; made.turn.code, 1);
@@ -116,10 +103,7 @@ fn second_takes_the_last(rt: HostRuntime) -> Result<(), Fail> {
 #[test]
 fn flags(rt: HostRuntime) -> Result<(), Fail> {
     let mut desk = table(rt.alloc(), 1, 33)?;
-    let Some(both) = two() else {
-        assert!(rt; false);
-        return Ok(());
-    };
+    let both = two()?;
     assert_eq!(rt; desk.replay(both, &[]), Side::First);
     let made = desk.turn(both, Side::First, 1_000);
     assert_eq!(rt; made.turn.code, 65_535);
@@ -144,10 +128,7 @@ fn flags(rt: HostRuntime) -> Result<(), Fail> {
 #[test]
 fn resigned_and_illegal(rt: HostRuntime) -> Result<(), Fail> {
     let mut desk = table(rt.alloc(), 65_534, 65_535)?;
-    let Some(both) = two() else {
-        assert!(rt; false);
-        return Ok(());
-    };
+    let both = two()?;
     assert_eq!(rt; desk.replay(both, &[]), Side::First);
     let made = desk.turn(both, Side::First, 5);
     assert_eq!(rt; number_after(made.event, true), 42);
@@ -171,13 +152,13 @@ fn resigned_and_illegal(rt: HostRuntime) -> Result<(), Fail> {
 
 #[test]
 fn after_the_end_nothing_changes(rt: HostRuntime) {
-    let ended = State::Ended(Verdict::Flag(Outcome::Drawn));
+    let ended = Some(Verdict::Flag(Outcome::Drawn));
     assert_eq!(rt;
-        standing_number(ended.after(Event::Ruling(Side::First), false).standing()),
+        standing_number(Event::Ruling(Side::First).settle(ended, false)),
         23
     );
     assert_eq!(rt;
-        standing_number(ended.after(Event::Move(Status::Open), true).standing()),
+        standing_number(Event::Move(Status::Open).settle(ended, true)),
         23
     );
     assert_eq!(rt; number_after(Event::Ruling(Side::First), false), 62);

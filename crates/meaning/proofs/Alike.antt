@@ -1,39 +1,21 @@
 -- A game, its record and its cells depend on the two players of that game only.
-use Rattle.std.proofs.Common.{◌≡◌, ℕ, ◌+◌, ◌≤◌, min, max, true, cond, eqb, ltb, leb, ◌≢◌, List, [], ◌∷◌, ◌++◌, length, get_or, sym, refl, ap, ◌∙◌, subst}
+use Rattle.std.specs.List.{fold}
+use Rattle.std.proofs.Common.{◌≡◌, ℕ, ◌+◌, ◌≤◌, min, max, true, cond, eqb, ltb, leb, ◌≢◌, List, [], ◌∷◌, ◌++◌, length, get_or, Option, sym, ap, ◌∙◌, subst}
 use mathlib.Core.Path.{fun_ext}
 use Rattle.side.specs.declared.Side.{Side}
 use Rattle.side.specs.declared.Side.TheVariants.{First, Second}
 use Rattle.side.specs.declared.PerSide.{PerSide}
 use Rattle.side.specs.TwoSides.{of_side}
-use Rattle.verdict.specs.declared.Turn.{Turn}
-use Rattle.entry.specs.declared.State.{State}
+use Rattle.verdict.specs.declared.Verdict.{Verdict}
 use Rattle.entry.specs.declared.Event.TheVariants.{Ruling}
-use Rattle.entry.specs.Entries.{fresh, noted, is_going, standing_of}
+use Rattle.entry.specs.Entries.{fresh, noted, is_going}
 use Rattle.seating.specs.Pairs.{games_of, seats_of, number_of}
 use Rattle.format.specs.Layout.{encode}
-use Rattle.meaning.specs.Turns.{Point, event_of, turn_of, past_turns}
-use Rattle.meaning.specs.Games.{Terms, Game, new_game, start_point, to_move, codes_of, answer_at, one, ruled, content_of_game}
+use Rattle.meaning.specs.Turns.{event_of, turn_of, past_turns}
+use Rattle.meaning.specs.Games.{Terms, Game, new_game, start_point, to_move, codes_of, answer_at, content_of_game}
 use Rattle.meaning.specs.Calls.{Hall, game_at, known, result_for, record_bytes, meeting, cell}
-use Rattle.meaning.specs.History.{Call, Reached, Item, reading, lost_by, feed, game_from, game_of, Alike, Without}
+use Rattle.meaning.specs.History.{Call, Reached, Item, reading, lost_by, feed, item, game_of, Alike, Without}
 use Rattle.meaning.specs.Promises.{KeptTerms, LiesTrue, SameRecord, SameCells}
-
--- a game by what of the terms it depends on: the point at the start, the limit, and the answers of its two players
-abbrev item_by : Point → ℕ → (List Turn → ℕ) → Game → Item → Game
-item_by start limit answers x (reading u) =
-    cond (is_going x.state) (record {
-      turns = x.turns ++ (turn_of (past_turns start First x.turns) (to_move x.turns) u (answers x.turns) ∷ []);
-      state = noted (leb limit (length x.turns + 1)) x.state (event_of (past_turns start First x.turns) (to_move x.turns) u (answers x.turns));
-    }) x
-item_by start limit answers x (lost_by loser) = record { turns = x.turns; state = noted (leb limit (length x.turns + 1)) x.state (Ruling loser) }
-
-abbrev game_by : Point → ℕ → (List Turn → ℕ) → Game → List Item → Game
-game_by start limit answers x [] = x
-game_by start limit answers x (i ∷ is) = game_by start limit answers (item_by start limit answers x i) is
-
-game_by_is : (T : Terms) (g : ℕ) (x : Game) (is : List Item) → game_from T g x is ≡ game_by (start_point T) T.limit (answer_at T g) x is
-game_by_is T g x [] = refl
-game_by_is T g x (reading u ∷ is) = game_by_is T g (one T g x u) is
-game_by_is T g x (lost_by loser ∷ is) = game_by_is T g (ruled T x loser) is
 
 start_same : (k : ℕ) (T U : Terms) → Alike k T U → start_point T ≡ start_point U
 start_same k T U alike = λ i. record { rules = alike.rules i; clock = alike.clock i }
@@ -50,17 +32,22 @@ answers_same k T U g alike without = fun_ext (λ ts.
     ap (λ (p : Side → List ℕ → ℕ). p s (codes_of ts)) (alike.bank (of_side s seats) (neither k seats without s))
     ∙ ap (λ n. U.plans.bank (of_side s (seats_of n g)) s (codes_of ts)) alike.entrants)
 
+-- so each item makes the same of a game
+item_same : (k : ℕ) (T U : Terms) (g : ℕ) → Alike k T U → Without k (seats_of T.entrants g) → (x : Game) (i : Item) → item T g x i ≡ item U g x i
+item_same k T U g alike without x (reading u) = λ j. cond (is_going x.verdict) (record {
+  turns = x.turns ++ (turn_of (past_turns (start_same k T U alike j) First x.turns) (to_move x.turns) u (answers_same k T U g alike without j x.turns) ∷ []);
+  verdict = noted (leb (alike.limit j) (length x.turns + 1)) x.verdict (event_of (past_turns (start_same k T U alike j) First x.turns) (to_move x.turns) u (answers_same k T U g alike without j x.turns));
+}) x
+item_same k T U g alike without x (lost_by loser) = λ j. record { turns = x.turns; verdict = noted (leb (alike.limit j) (length x.turns + 1)) x.verdict (Ruling loser) }
+
 pub alike_games : (k : ℕ) (T U : Terms) (g : ℕ) → Alike k T U → Without k (seats_of T.entrants g) → (is : List Item) → game_of T g is ≡ game_of U g is
-alike_games k T U g alike without is =
-    game_by_is T g new_game is
-    ∙ (λ i. game_by (start_same k T U alike i) (alike.limit i) (answers_same k T U g alike without i) new_game is)
-    ∙ sym (game_by_is U g new_game is)
+alike_games k T U g alike without is = λ j. fold (λ x i. item_same k T U g alike without x i j) new_game is
 
 pub alike_content : (k : ℕ) (T U : Terms) → Alike k T U → (g : ℕ) (x : Game) → content_of_game T g x ≡ content_of_game U g x
 alike_content k T U alike g x = λ i. record {
   first = (seats_of (alike.entrants i) g).first;
   second = (seats_of (alike.entrants i) g).second;
-  standing = standing_of x.state;
+  standing = x.verdict;
   limit = alike.limit i;
   text = alike.text i;
   turns = x.turns;
@@ -75,9 +62,9 @@ bytes_same k T U alike hall other g same =
 
 pub cell_same : (k : ℕ) (T U : Terms) → Alike k T U → (hall other : Hall) (a b : ℕ) → game_at T hall (meeting T a b) ≡ game_at U other (meeting T a b) → cell T hall.entries a b ≡ cell U other.entries a b
 cell_same k T U alike hall other a b same =
-    let by : ℕ → State → ℕ = λ n s. cond (eqb a b) 0 (result_for (cond (eqb (seats_of n (number_of n (min a b) (max a b))).first a) First Second) s) in
-    ap (λ (x : Game). by T.entrants x.state) same
-    ∙ ap (λ n. by n (get_or other.entries (number_of n (min a b) (max a b)) fresh).state) alike.entrants
+    let by : ℕ → Option Verdict → ℕ = λ n s. cond (eqb a b) 0 (result_for (cond (eqb (seats_of n (number_of n (min a b) (max a b))).first a) First Second) s) in
+    ap (λ (x : Game). by T.entrants x.verdict) same
+    ∙ ap (λ n. by n (get_or other.entries (number_of n (min a b) (max a b)) fresh).verdict) alike.entrants
 
 -- of the terms, lying true asks the ranges alone, so that it holds for every event that is alike
 module _ (lies : (T : Terms) → T.entrants ≤ 16 → 1 ≤ T.limit → (hall : Hall) (g : ℕ) → LiesTrue T hall g)

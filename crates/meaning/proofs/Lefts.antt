@@ -9,12 +9,12 @@ use Rattle.verdict.specs.declared.Turn.{Turn}
 use Rattle.format.specs.Layout.{InLaw}
 use Rattle.meaning.specs.Turns.{Point, past_turn, past_turns}
 use Rattle.meaning.specs.Games.{Terms, point_at}
-use Rattle.meaning.proofs.Walks.{by_test}
+use Rattle.std.proofs.lemmas.Bool.{cond_both}
 
 -- a line's times are some of its plan's
 spent_bounded : (κ : Times) → Bounded κ → (side : Side) (u : ℕ) → Bounded (spent κ side u)
 spent_bounded κ b side u =
-    by_test Bounded (ltb u (κ side [])) (λ e. record { least = λ s us. b.least s _; most = λ s us. b.most s _ }) (λ e. b)
+    cond_both (ltb u (κ side [])) _ _ Bounded (λ e. record { least = λ s us. b.least s _; most = λ s us. b.most s _ }) (λ e. b)
 
 bounded_after : (x : Point) (side : Side) (ts : List Turn) → Bounded x.clock → Bounded (past_turns x side ts).clock
 bounded_after x side [] b = b
@@ -39,17 +39,17 @@ used_from side r [] = r
 used_from side r (t ∷ ts) = used_from (opponent side) (more_used r side t.reading) ts
 
 in_time_same : (κ : Times) (r : Side → List ℕ) (side : Side) (u : ℕ) (s : Side) (us : List ℕ) → past (beyond κ r) side u s us ≡ beyond κ (more_used r side u) s us
-in_time_same κ r First u First us = ap (κ First) (sym (append_assoc (r First) (u ∷ []) us))
-in_time_same κ r First u Second us = ap (κ Second) (sym (append_assoc (r Second) [] us))
-in_time_same κ r Second u First us = ap (κ First) (sym (append_assoc (r First) [] us))
-in_time_same κ r Second u Second us = ap (κ Second) (sym (append_assoc (r Second) (u ∷ []) us))
+in_time_same κ r First u First us = simp append_assoc
+in_time_same κ r First u Second us = simp append_assoc
+in_time_same κ r Second u First us = simp append_assoc
+in_time_same κ r Second u Second us = simp append_assoc
 
 -- a plan passes over a reading that is not in time
 fallen_same : (κ : Times) → Passing κ → (r : Side → List ℕ) (side : Side) (u : ℕ) → κ side (r side) ≤ u → (s : Side) (us : List ℕ) → beyond κ r s us ≡ beyond κ (more_used r side u) s us
-fallen_same κ p r First u h First us = sym (ap (κ First) (append_assoc (r First) (u ∷ []) us) ∙ p.over First (r First) u us h)
-fallen_same κ p r First u h Second us = ap (κ Second) (sym (append_assoc (r Second) [] us))
-fallen_same κ p r Second u h First us = ap (κ First) (sym (append_assoc (r First) [] us))
-fallen_same κ p r Second u h Second us = sym (ap (κ Second) (append_assoc (r Second) (u ∷ []) us) ∙ p.over Second (r Second) u us h)
+fallen_same κ p r First u h First us = simp append_assoc (sym (p.over First (r First) u us h))
+fallen_same κ p r First u h Second us = simp append_assoc
+fallen_same κ p r Second u h First us = simp append_assoc
+fallen_same κ p r Second u h Second us = simp append_assoc (sym (p.over Second (r Second) u us h))
 
 spent_by : (κ : Times) → Passing κ → (r : Side → List ℕ) (side : Side) (u : ℕ) (b : Bool) → ltb u (κ side (r side ++ [])) ≡ b → cond b (past (beyond κ r) side u) (beyond κ r) ≡ beyond κ (more_used r side u)
 spent_by κ p r side u true e = fun_ext (λ s. fun_ext (λ us. in_time_same κ r side u s us))

@@ -2,34 +2,31 @@
 --   wants    an open game has one turn to come
 --   room     the turns that an entry asks room for
 --   Roomy    as many entries as there can be games, a space as long as all games may be, and each entry within the limit
-use Rattle.std.proofs.Common.{◌≡◌, ℕ, zero, suc, ◌+◌, ◌-◌, ◌*◌, ◌<◌, ◌≤◌, Bool, true, false, cond, leb, ◌≢◌, List, [], ◌∷◌, ◌++◌, length, get_or, take, drop, set, replicate, Some, None, Option, sym, refl, ap, ◌∙◌, inl, inr, mul-le-mul, arith}
+use Rattle.std.proofs.Common.{◌≡◌, ℕ, zero, suc, ◌+◌, ◌-◌, ◌*◌, ◌<◌, ◌≤◌, Bool, leb, ◌≢◌, List, [], ◌∷◌, ◌++◌, length, get_or, take, drop, set, replicate, Some, None, Option, sym, refl, ap, ◌∙◌, inl, inr, mul-le-mul, arith}
 use Rattle.std.proofs.lemmas.List.{get_or-set_same, get_or-set_other, length-set, length_push, length-replicate}
-use Rattle.std.proofs.lemmas.Bool.{cases_eq, cases_lt, leb-false, ltb-true, ltb-false}
+use Rattle.std.proofs.lemmas.Bool.{cases_eq, cases_lt}
+use Rattle.std.proofs.lemmas.Bool.Decides.{nat_tests}
 use Rattle.side.specs.declared.Side.{Side}
-use Rattle.rules.specs.declared.Status.{Status}
-use Rattle.rules.specs.declared.Status.TheVariants.{Open as StillOpen, Won, Drawn}
 use Rattle.verdict.specs.declared.Turn.{Turn}
-use Rattle.entry.specs.declared.State.{State}
-use Rattle.entry.specs.declared.State.TheVariants.{Open, Ended}
+use Rattle.verdict.specs.declared.Verdict.{Verdict}
 use Rattle.entry.specs.declared.Entry.{Entry}
 use Rattle.entry.specs.declared.Event.{Event}
-use Rattle.entry.specs.declared.Event.TheVariants.{Flag, Resignation, Illegal, Move, Ruling}
-use Rattle.entry.specs.Entries.{fresh, is_going, noted}
+use Rattle.entry.specs.declared.Event.TheVariants.{Ruling}
+use Rattle.entry.specs.Entries.{fresh, noted}
 use Rattle.seating.specs.Pairs.{games_of}
 use Rattle.format.specs.Laid.{laid}
 use Rattle.format.proofs.LaidOut.{length_laid}
 use Rattle.meaning.specs.Turns.{turn_of, event_of}
 use Rattle.meaning.specs.Games.{Terms, Game, point_at, to_move, answer_at, is_last, turned, one, several}
-use Rattle.meaning.specs.Calls.{Hall, entry_at, game_at, entry_of, put, known, short, in_range, play_refusal, rule_refusal, after_play, played, ruled_entry, ruled_entries}
-use Rattle.meaning.proofs.Walks.{by_test}
+use Rattle.meaning.specs.Calls.{Hall, entry_at, game_at, entry_of, put, play_refusal, rule_refusal, after_play, played, ruled_entry, ruled_entries}
 use Rattle.meaning.proofs.Space.{apart, part_length, part_laid, part_before, rest_after}
 
-abbrev pub wants : State → ℕ
-wants Open = 1
-wants (Ended v) = 0
+abbrev pub wants : Option Verdict → ℕ
+wants None = 1
+wants (Some v) = 0
 
 abbrev pub room : Entry → ℕ
-room e = e.turns + wants e.state
+room e = e.turns + wants e.verdict
 
 abbrev pub Within : ℕ → List Entry → Type 0
 Within limit entries = (g : ℕ) → room (get_or entries g fresh) ≤ limit
@@ -51,7 +48,7 @@ all_fresh (suc n) zero = refl
 all_fresh (suc n) (suc g) = all_fresh n g
 
 within_fresh : (limit : ℕ) → 1 ≤ limit → Within limit (replicate 120 fresh)
-within_fresh limit h g = let r : room (get_or (replicate 120 fresh) g fresh) ≡ 1 = ap room (all_fresh 120 g) in omega arith
+within_fresh limit h g = rw (all_fresh 120 g) h
 
 pub roomy_made : (T : Terms) (space : List Turn) → 1 ≤ T.limit → games_of T.entrants * T.limit ≤ length space → Roomy T (record { entries = replicate 120 fresh; space = space })
 roomy_made T space least wide = record { size = length-replicate 120 fresh; wide = wide; within = within_fresh T.limit least }
@@ -59,73 +56,45 @@ roomy_made T space least wide = record { size = length-replicate 120 fresh; wide
 within_set : (limit : ℕ) (entries : List Entry) (g : ℕ) (e : Entry) → g < length entries → Within limit entries → room e ≤ limit → Within limit (set entries g e)
 within_set limit entries g e h w b k =
     elim (cases_eq k g) [
-      | inl p ↦ (let q : room (get_or (set entries g e) k fresh) ≡ room e = ap (λ (j : ℕ). room (get_or (set entries g e) j fresh)) p ∙ ap room (get_or-set_same entries g e fresh h) in omega arith)
-      | inr p ↦ (let q : room (get_or (set entries g e) k fresh) ≡ room (get_or entries k fresh) = ap room (get_or-set_other entries g k e fresh p) in let c = w k in omega arith)
+      | inl p ↦ rw (p, get_or-set_same entries g e fresh h) b
+      | inr p ↦ rw (get_or-set_other entries g k e fresh p) (w k)
     ]
 
 -- one turn more: the game is open only where another may follow
-wants_moved : (limit n : ℕ) (status : Status) → n ≤ limit → n + wants (noted (leb limit n) Open (Move status)) ≤ limit
-wants_moved limit n StillOpen h = by_test (λ (s : State). n + wants s ≤ limit) (leb limit n) (λ e. omega arith) (λ e. omega (arith, leb-false limit n e))
-wants_moved limit n (Won s) h = omega arith
-wants_moved limit n Drawn h = omega arith
+wants_open : (limit n : ℕ) (event : Event) → n ≤ limit → n + wants (noted (leb limit n) None event) ≤ limit
+wants_open limit n event h = grind (arith, nat_tests)
 
-wants_open : (limit n : ℕ) (event : Event) → n ≤ limit → n + wants (noted (leb limit n) Open event) ≤ limit
-wants_open limit n (Flag o) h = omega arith
-wants_open limit n (Resignation s) h = omega arith
-wants_open limit n (Illegal s) h = omega arith
-wants_open limit n (Move status) h = wants_moved limit n status h
-wants_open limit n (Ruling s) h = omega arith
+wants_ruled : (last : Bool) (s : Option Verdict) (loser : Side) → wants (noted last s (Ruling loser)) ≤ wants s
+wants_ruled last s loser = grind (arith, nat_tests)
 
-wants_ruled : (last : Bool) (s : State) (loser : Side) → wants (noted last s (Ruling loser)) ≤ wants s
-wants_ruled last Open loser = omega arith
-wants_ruled last (Ended v) loser = omega arith
-
-room_turned : (T : Terms) (g : ℕ) (ts : List Turn) (u : ℕ) → room (entry_of (record { turns = ts; state = Open })) ≤ T.limit → room (entry_of (turned T g (record { turns = ts; state = Open }) u)) ≤ T.limit
+room_turned : (T : Terms) (g : ℕ) (ts : List Turn) (u : ℕ) → room (entry_of (record { turns = ts; verdict = None })) ≤ T.limit → room (entry_of (turned T g (record { turns = ts; verdict = None }) u)) ≤ T.limit
 room_turned T g ts u h =
     let x = point_at T ts in
     let t : Turn = turn_of x (to_move ts) u (answer_at T g ts) in
     let event : Event = event_of x (to_move ts) u (answer_at T g ts) in
     let l : length (ts ++ (t ∷ [])) ≡ length ts + 1 = length_push ts t in
-    let k : length ts + 1 + wants (noted (leb T.limit (length ts + 1)) Open event) ≤ T.limit = wants_open T.limit (length ts + 1) event h in
+    let k : length ts + 1 + wants (noted (leb T.limit (length ts + 1)) None event) ≤ T.limit = wants_open T.limit (length ts + 1) event h in
     omega arith
 
-pub room_one : (T : Terms) (g : ℕ) (ts : List Turn) (s : State) (u : ℕ) → room (entry_of (record { turns = ts; state = s })) ≤ T.limit → room (entry_of (one T g (record { turns = ts; state = s }) u)) ≤ T.limit
-room_one T g ts Open u h = room_turned T g ts u h
-room_one T g ts (Ended v) u h = h
+pub room_one : (T : Terms) (g : ℕ) (ts : List Turn) (s : Option Verdict) (u : ℕ) → room (entry_of (record { turns = ts; verdict = s })) ≤ T.limit → room (entry_of (one T g (record { turns = ts; verdict = s }) u)) ≤ T.limit
+room_one T g ts None u h = room_turned T g ts u h
+room_one T g ts (Some v) u h = h
 
 room_several : (T : Terms) (g : ℕ) (x : Game) (us : List ℕ) → room (entry_of x) ≤ T.limit → room (entry_of (several T g x us)) ≤ T.limit
 room_several T g x [] h = h
-room_several T g x (u ∷ us) h = room_several T g (one T g x u) us (room_one T g x.turns x.state u h)
+room_several T g x (u ∷ us) h = room_several T g (one T g x u) us (room_one T g x.turns x.verdict u h)
 
 -- what holds of both outcomes of a call holds of what it leaves
 pub by_refusal : {A : Type 0} (P : A → Type 0) (r : Option ℕ) {x y : A} → P x → (r ≡ None → P y) → P (elim r [ Some n ↦ x | None ↦ y ])
 by_refusal P (Some n) h k = h
 by_refusal P None h k = k refl
 
--- the number of the first check of a play that fails, by what the checks say
-abbrev pub play_checks : Bool → Bool → Bool → Bool → Bool → Option ℕ
-play_checks low named few range going = cond low (Some 3) (cond named (cond few (cond range (cond going None (Some 8)) (Some 7)) (Some 6)) (Some 5))
-
-play_none : (low named few range going : Bool) → play_checks low named few range going ≡ None → (low ≡ false) × (named ≡ true)
-play_none true named few range going e = let z : ◌≡◌ {A = ℕ} 0 1 = cc in absurd (omega arith)
-play_none false true few range going e = (refl, refl)
-play_none false false few range going e = let z : ◌≡◌ {A = ℕ} 0 1 = cc in absurd (omega arith)
-
 -- a play that is not refused was lent a space that is wide enough, and names a game
 pub play_known : (T : Terms) (hall : Hall) (g : ℕ) (us : List ℕ) → play_refusal T hall g us ≡ None → (games_of T.entrants * T.limit ≤ length hall.space) × (g < games_of T.entrants)
-play_known T hall g us e =
-    let n = play_none (short T (length hall.space)) (known T g) (leb (length us) 64) (in_range us) (is_going (entry_at hall g).state) e in
-    (ltb-false (length hall.space) (games_of T.entrants * T.limit) n.0, ltb-true g (games_of T.entrants) n.1)
-
-abbrev pub rule_checks : Bool → Bool → Option ℕ
-rule_checks named going = cond named (cond going None (Some 8)) (Some 5)
-
-rule_none : (named going : Bool) → rule_checks named going ≡ None → named ≡ true
-rule_none true going e = refl
-rule_none false going e = let z : ◌≡◌ {A = ℕ} 0 1 = cc in absurd (omega arith)
+play_known T hall g us e = (grind (arith, nat_tests), grind (arith, nat_tests))
 
 rule_known : (T : Terms) (entries : List Entry) (g : ℕ) → rule_refusal T entries g ≡ None → g < games_of T.entrants
-rule_known T entries g e = ltb-true g (games_of T.entrants) (rule_none (known T g) (is_going (get_or entries g fresh).state) e)
+rule_known T entries g e = grind (arith, nat_tests)
 
 -- a ruling asks for no room
 pub table_ruled : (T : Terms) → T.entrants ≤ 16 → (entries : List Entry) → length entries ≡ 120 → Within T.limit entries → (g : ℕ) (loser : Side)
@@ -135,7 +104,7 @@ table_ruled T most entries size within g loser =
     (λ e.
     let after : Entry = ruled_entry T (get_or entries g fresh) loser in
     let w = within g in
-    let r = wants_ruled (is_last T []) (get_or entries g fresh).state loser in
+    let r = wants_ruled (is_last T []) (get_or entries g fresh).verdict loser in
     let m = games_most T.entrants most in
     let k = rule_known T entries g e in
     (length-set entries g after ∙ size, within_set T.limit entries g after (omega arith) within (omega arith)))
@@ -163,9 +132,9 @@ module _ (T : Terms) (most : T.entrants ≤ 16) (hall : Hall) (ok : Roomy T hall
   put_same g x h =
       let base : ℕ = g * T.limit in
       let start : base + 0 ≤ length hall.space = in_space g 0 h (omega arith) in
-      let lying : Entry → Game = λ e. record { turns = take e.turns (drop base (laid hall.space base x.turns)); state = e.state } in
+      let lying : Entry → Game = λ e. record { turns = take e.turns (drop base (laid hall.space base x.turns)); verdict = e.verdict } in
       ap lying (get_or-set_same hall.entries g (entry_of x) fresh (in_table g h))
-      ∙ (λ i. record { turns = part_laid hall.space base x.turns (omega arith) i; state = x.state })
+      ∙ (λ i. record { turns = part_laid hall.space base x.turns (omega arith) i; verdict = x.verdict })
 
   -- and every other game lies as it did
   pub put_other : (g k : ℕ) (x : Game) → g ≢ k → g < games_of T.entrants → k < games_of T.entrants → room (entry_of x) ≤ T.limit → game_at T (put T hall k x) g ≡ game_at T hall g
@@ -177,14 +146,14 @@ module _ (T : Terms) (most : T.entrants ≤ 16) (hall : Hall) (ok : Roomy T hall
       let fit : length x.turns ≤ T.limit = omega arith in
       let inside : e.turns ≤ T.limit = omega arith in
       let long : base + length x.turns ≤ length hall.space = in_space k (length x.turns) hk fit in
-      let lying : Entry → Game = λ d. record { turns = take d.turns (drop from (laid hall.space base x.turns)); state = d.state } in
+      let lying : Entry → Game = λ d. record { turns = take d.turns (drop from (laid hall.space base x.turns)); verdict = d.verdict } in
       let same : take e.turns (drop from (laid hall.space base x.turns)) ≡ take e.turns (drop from hall.space) =
       elim (cases_lt g k) [
         | inl lt ↦ part_before hall.space base x.turns from e.turns (apart g k T.limit e.turns lt inside) (omega arith)
         | inr ge ↦ ap (take e.turns) (rest_after hall.space base x.turns from (apart k g T.limit (length x.turns) (let n : k ≢ g = λ p. ne (sym p) in omega arith) fit) long)
       ] in
       ap lying (get_or-set_other hall.entries k g (entry_of x) fresh ne)
-      ∙ (λ i. record { turns = same i; state = e.state })
+      ∙ (λ i. record { turns = same i; verdict = e.verdict })
 
   pub roomy_put : (g : ℕ) (x : Game) → g < games_of T.entrants → room (entry_of x) ≤ T.limit → Roomy T (put T hall g x)
   roomy_put g x h fits =

@@ -1,14 +1,14 @@
 -- The loop of play: one turn more of a game that lies in a hall, and where the loop stands between two turns.
-use Rattle.std.proofs.Common.{◌≡◌, ℕ, ◌+◌, ◌*◌, ◌<◌, ◌≤◌, Bool, true, false, cond, leb, List, [], ◌∷◌, ◌++◌, length, get_or, take, drop, set, sym, refl, ap, ◌∙◌, subst, ap₂, append_assoc, arith}
+use Rattle.std.proofs.Common.{◌≡◌, ℕ, ◌+◌, ◌*◌, ◌<◌, ◌≤◌, Bool, true, false, cond, leb, List, [], ◌∷◌, ◌++◌, length, get_or, drop, set, Option, sym, refl, ap, ◌∙◌, subst, ap₂, append_assoc, arith}
 use mathlib.Core.Path.{fun_ext}
-use Rattle.std.proofs.lemmas.List.{append-nil, length-append, length-take, length-drop, length_push, map_push, set-set, set-get_or, at_drop_more, at_drop_all}
+use Rattle.std.proofs.lemmas.List.{length-append, length-take, length-drop, length_push, map_push, set-set, set-get_or, at_drop_more, at_drop_all}
+use Rattle.std.proofs.lemmas.Bool.Decides.{nat_tests}
 use Rattle.side.specs.declared.Side.{Side}
 use Rattle.side.specs.declared.Side.TheVariants.{First}
 use Rattle.side.specs.TwoSides.{opponent, of_side}
 use Rattle.player.specs.Answers.{Answers, shown}
 use Rattle.verdict.specs.declared.Turn.{Turn}
-use Rattle.entry.specs.declared.State.{State}
-use Rattle.entry.specs.declared.State.TheVariants.{Open, Ended}
+use Rattle.verdict.specs.declared.Verdict.{Verdict}
 use Rattle.entry.specs.declared.Event.{Event}
 use Rattle.entry.specs.Entries.{fresh, is_going, noted}
 use Rattle.seating.specs.Pairs.{games_of, seats_of}
@@ -28,9 +28,6 @@ after_shown plan codes w = plan (codes ++ w)
 pub shown_push : (plan : Answers) (codes : List ℕ) (code : ℕ) → shown (after_shown plan codes) code ≡ after_shown plan (codes ++ (code ∷ []))
 shown_push plan codes code = fun_ext (λ w. ap plan (sym (append_assoc codes (code ∷ []) w)))
 
-pub shown_now : (plan : Answers) (codes : List ℕ) → after_shown plan codes [] ≡ plan codes
-shown_now plan codes = ap plan (append-nil codes)
-
 -- the answer of the side to move, by the codes shown
 abbrev pub answer_of : Terms → ℕ → Side → List ℕ → ℕ
 answer_of T g side codes = T.plans.bank (of_side side (seats_of T.entrants g)) side codes
@@ -38,7 +35,7 @@ answer_of T g side codes = T.plans.bank (of_side side (seats_of T.entrants g)) s
 -- the hall after a turn is written: the game's entry counts it, and it stands at the game's next place
 abbrev pub stepped : Terms → ℕ → Hall → Event → Turn → Hall
 stepped T g hall event t = record {
-  entries = set hall.entries g (record { turns = (entry_at hall g).turns + 1; state = noted (leb T.limit ((entry_at hall g).turns + 1)) (entry_at hall g).state event });
+  entries = set hall.entries g (record { turns = (entry_at hall g).turns + 1; verdict = noted (leb T.limit ((entry_at hall g).turns + 1)) (entry_at hall g).verdict event });
   space = set hall.space (g * T.limit + (entry_at hall g).turns) t;
 }
 
@@ -54,9 +51,8 @@ pub record Standing (T : Terms) (g : ℕ) (hall₀ hall : Hall) (us : List ℕ) 
   pub roomy : Roomy T hall
 
 -- an open game has one turn to come
-going_wants : (s : State) → is_going s ≡ true → wants s ≡ 1
-going_wants Open e = refl
-going_wants (Ended v) e = let z : ◌≡◌ {A = ℕ} 0 1 = cc in absurd (omega arith)
+going_wants : (s : Option Verdict) → is_going s ≡ true → wants s ≡ 1
+going_wants s e = grind (arith, nat_tests)
 
 -- a later game of the same number takes the place of an earlier
 put_over : (T : Terms) (hall : Hall) (g : ℕ) (x y : Game) → length x.turns ≤ length y.turns → g * T.limit + length x.turns ≤ length hall.space → put T (put T hall g x) g y ≡ put T hall g y
@@ -67,25 +63,20 @@ put_over T hall g x y h k = λ i. record {
 
 -- a list over which another was laid up to a place within it was as long
 long_before : (sp ts : List Turn) (base : ℕ) → base + length ts < length (laid sp base ts) → base + length ts ≤ length sp
-long_before sp ts base h =
-    let a = length-append (take base sp) (ts ++ drop (base + length ts) sp) in
-    let b = length-append ts (drop (base + length ts) sp) in
-    let c = length-take base sp in
-    let d = length-drop (base + length ts) sp in
-    omega arith
+long_before sp ts base h = let k = simp (length-append, length-take, length-drop) at h in omega (arith, k)
 
 module _ (T : Terms) (most : T.entrants ≤ 16) (g : ℕ) (named : g < games_of T.entrants) where
   -- an open game has a place for one turn more
-  pub next_place : (hall : Hall) → Roomy T hall → is_going (entry_at hall g).state ≡ true → g * T.limit + (entry_at hall g).turns < length hall.space
+  pub next_place : (hall : Hall) → Roomy T hall → is_going (entry_at hall g).verdict ≡ true → g * T.limit + (entry_at hall g).turns < length hall.space
   next_place hall ok e =
       let w = ok.within g in
-      let o = going_wants (entry_at hall g).state e in
+      let o = going_wants (entry_at hall g).verdict e in
       let p = in_space T most hall ok g ((entry_at hall g).turns + 1) named (omega arith) in
       omega arith
 
   -- to write a turn is to put the game with that turn
-  pub stepped_put : (hall : Hall) (event : Event) (t : Turn) → Roomy T hall → is_going (entry_at hall g).state ≡ true
-      → stepped T g hall event t ≡ put T hall g (record { turns = (game_at T hall g).turns ++ (t ∷ []); state = noted (is_last T (game_at T hall g).turns) (entry_at hall g).state event })
+  pub stepped_put : (hall : Hall) (event : Event) (t : Turn) → Roomy T hall → is_going (entry_at hall g).verdict ≡ true
+      → stepped T g hall event t ≡ put T hall g (record { turns = (game_at T hall g).turns ++ (t ∷ []); verdict = noted (is_last T (game_at T hall g).turns) (entry_at hall g).verdict event })
   stepped_put hall event t ok e =
       let base : ℕ = g * T.limit in
       let n : ℕ = (entry_at hall g).turns in
@@ -96,7 +87,7 @@ module _ (T : Terms) (most : T.entrants ≤ 16) (g : ℕ) (named : g < games_of 
       let laying : set hall.space (base + n) t ≡ laid hall.space base (ts ++ (t ∷ [])) =
       ap₂ (λ (l : List Turn) (m : ℕ). set l (base + m) t) (sym (laid_same hall.space base n (omega arith))) long ∙ laid_push hall.space base ts t (omega arith) in
       λ i. record {
-        entries = set hall.entries g (record { turns = count i; state = noted (leb T.limit (long i + 1)) (entry_at hall g).state event });
+        entries = set hall.entries g (record { turns = count i; verdict = noted (leb T.limit (long i + 1)) (entry_at hall g).verdict event });
         space = laying i;
       }
 
@@ -107,7 +98,7 @@ module _ (T : Terms) (most : T.entrants ≤ 16) (g : ℕ) (named : g < games_of 
       let long : length (game_at T hall g).turns ≡ n = turns_lie T most hall ok g named in
       let w = ok.within g in
       let entry : set hall.entries g (entry_of (game_at T hall g)) ≡ hall.entries =
-      (λ i. set hall.entries g (record { turns = long i; state = (entry_at hall g).state })) ∙ set-get_or hall.entries g fresh in
+      (λ i. set hall.entries g (record { turns = long i; verdict = (entry_at hall g).verdict })) ∙ set-get_or hall.entries g fresh in
       let same : laid hall.space (g * T.limit) (game_at T hall g).turns ≡ hall.space =
       laid_same hall.space (g * T.limit) n (in_space T most hall ok g n named (omega arith)) in
       record {
@@ -123,7 +114,7 @@ module _ (T : Terms) (most : T.entrants ≤ 16) (g : ℕ) (named : g < games_of 
 
   -- one turn more, by the next reading and the answer of the side to move
   pub standing_more : {hall₀ hall : Hall} {us : List ℕ} {i : ℕ} {x : Point} {side : Side} {codes : List ℕ} {count : ℕ} (u code : ℕ) → Standing T g hall₀ hall us i x side codes count
-      → is_going (entry_at hall g).state ≡ true → i < length us → u ≡ get_or us i 0 → code ≡ answer_of T g side codes
+      → is_going (entry_at hall g).verdict ≡ true → i < length us → u ≡ get_or us i 0 → code ≡ answer_of T g side codes
       → Standing T g hall₀ (stepped T g hall (event_of x side u code) (turn_of x side u code)) us (i + 1) (past_turn x side (turn_of x side u code)) (opponent side) (codes ++ ((turn_of x side u code).code ∷ [])) (count + 1)
   standing_more {hall₀} {hall} {us} {i} {x} {side} {codes} {count} u code s going within eu answers =
       let base : ℕ = g * T.limit in
@@ -133,19 +124,19 @@ module _ (T : Terms) (most : T.entrants ≤ 16) (g : ℕ) (named : g < games_of 
       let t : Turn = turn_of x side u code in
       let event : Event = event_of x side u code in
       let hall' : Hall = stepped T g hall event t in
-      let G' : Game = record { turns = ts ++ (t ∷ []); state = noted (is_last T ts) G.state event } in
+      let G' : Game = record { turns = ts ++ (t ∷ []); verdict = noted (is_last T ts) G.verdict event } in
       let long : length ts ≡ n = turns_lie T most hall s.roomy g named in
       let pushed : length (ts ++ (t ∷ [])) ≡ length ts + 1 = length_push ts t in
       let place : base + n < length hall.space = next_place hall s.roomy going in
       let answer : code ≡ answer_at T g ts = answers ∙ ap₂ (answer_of T g) s.moves s.seen in
       let is_turned : G' ≡ turned T g G u = λ j. record {
         turns = ts ++ (turn_of (s.at j) (s.moves j) u (answer j) ∷ []);
-        state = noted (is_last T ts) G.state (event_of (s.at j) (s.moves j) u (answer j));
+        verdict = noted (is_last T ts) G.verdict (event_of (s.at j) (s.moves j) u (answer j));
       } in
       let is_one : G' ≡ one T g G u = is_turned ∙ ap (λ (b : Bool). cond b (turned T g G u) G) (sym going) in
       let put' : hall' ≡ put T hall g G' = stepped_put hall event t s.roomy going in
       let game : game_at T hall' g ≡ G' = ap (λ (h : Hall). game_at T h g) put' ∙ put_same T most hall s.roomy g G' named in
-      let fits : room (entry_of G') ≤ T.limit = subst (λ (y : Game). room (entry_of y) ≤ T.limit) (sym is_one) (room_one T g ts G.state u (room_at T most hall s.roomy g named)) in
+      let fits : room (entry_of G') ≤ T.limit = subst (λ (y : Game). room (entry_of y) ≤ T.limit) (sym is_one) (room_one T g ts G.verdict u (room_at T most hall s.roomy g named)) in
       let roomy' : Roomy T hall' = subst (Roomy T) (sym put') (roomy_put T most hall s.roomy g G' named fits) in
       let wide : length hall.space ≡ length (laid hall₀.space base ts) = ap (λ (h : Hall). length h.space) s.lies in
       let before : base + length ts ≤ length hall₀.space = long_before hall₀.space ts base (omega arith) in
@@ -165,7 +156,7 @@ module _ (T : Terms) (most : T.entrants ≤ 16) (g : ℕ) (named : g < games_of 
 
   -- the same, of what the code holds after the turn
   pub standing_next : {hall₀ hall : Hall} {us : List ℕ} {i : ℕ} {x : Point} {side : Side} {codes : List ℕ} {count : ℕ} (hall' : Hall) (x' : Point) (side' : Side) (codes' : List ℕ) (u code : ℕ) (event : Event) (t : Turn)
-      → Standing T g hall₀ hall us i x side codes count → is_going (entry_at hall g).state ≡ true → i < length us → u ≡ get_or us i 0 → code ≡ answer_of T g side codes
+      → Standing T g hall₀ hall us i x side codes count → is_going (entry_at hall g).verdict ≡ true → i < length us → u ≡ get_or us i 0 → code ≡ answer_of T g side codes
       → event ≡ event_of x side u code → t ≡ turn_of x side u code
       → hall'.entries ≡ (stepped T g hall event t).entries → hall'.space ≡ (stepped T g hall event t).space
       → x' ≡ past_turn x side t → side' ≡ opponent side → codes' ≡ codes ++ (t.code ∷ [])
@@ -197,5 +188,5 @@ module _ (T : Terms) (most : T.entrants ≤ 16) (g : ℕ) (named : g < games_of 
 
   -- the game has ended
   pub standing_over : {hall₀ hall : Hall} {us : List ℕ} {i : ℕ} {x : Point} {side : Side} {codes : List ℕ} {count : ℕ} → Standing T g hall₀ hall us i x side codes count
-      → is_going (entry_at hall g).state ≡ false → (hall ≡ put T hall₀ g (after_play T hall₀ g us)) × (count ≡ turns_made T hall₀ g us)
+      → is_going (entry_at hall g).verdict ≡ false → (hall ≡ put T hall₀ g (after_play T hall₀ g us)) × (count ≡ turns_made T hall₀ g us)
   standing_over {hall₀} {hall} {us} {i} s e = standing_all s (several_ended T g (game_at T hall g) (drop i us) e)

@@ -8,11 +8,6 @@ use Rattle.verdict.specs.declared.Turn.{Turn}
 use Rattle.meaning.specs.Turns.{Point, past_turn, past_turns, mover}
 use Rattle.meaning.specs.History.{made_from}
 
--- what holds both ways holds of a test's result
-pub by_test : {A : Type 0} (P : A → Type 0) (b : Bool) {x y : A} → (b ≡ true → P x) → (b ≡ false → P y) → P (cond b x y)
-by_test P true h k = h refl
-by_test P false h k = k refl
-
 pub past_push : (x : Point) (s : Side) (ts : List Turn) (t : Turn) → past_turns x s (ts ++ (t ∷ [])) ≡ past_turn (past_turns x s ts) (mover s ts) t
 past_push x s [] t = refl
 past_push x s (y ∷ ts) t = past_push (past_turn x s y) (opponent s) ts t
@@ -21,7 +16,7 @@ pub mover_push : (s : Side) (ts : List Turn) (t : Turn) → mover s (ts ++ (t �
 mover_push s [] t = refl
 mover_push s (y ∷ ts) t = mover_push (opponent s) ts t
 
-after_after : (p : RulesPlan) (w v : List ℕ) → after_codes (after_codes p w) v ≡ after_codes p (w ++ v)
+pub after_after : (p : RulesPlan) (w v : List ℕ) → after_codes (after_codes p w) v ≡ after_codes p (w ++ v)
 after_after p w v =
     let at : (List ℕ → List ℕ) → RulesPlan = λ k. record { legal = λ u. p.legal (k u); status = λ u. p.status (k u); chance = λ u. p.chance (k u) } in
     ap at (fun_ext (λ u. sym (append_assoc w v u)))

@@ -8,7 +8,7 @@
 --   past_turn    the point after a turn as it stands: spent, and made
 --   past_turns   the same for several, the sides taking turns
 --   mover        the side to move after some turns
-use Rattle.std.specs.Prelude.{ℕ, Bool, cond, List, [], ◌∷◌, ◌==◌, nat_lt}
+use Rattle.std.specs.Prelude.{ℕ, Bool, if◌then◌else◌, List, [], ◌∷◌, ◌==◌, nat_lt}
 use Rattle.side.specs.declared.Side.{Side}
 use Rattle.side.specs.TwoSides.{opponent}
 use Rattle.clock.specs.Times.{Times, spent}
@@ -27,18 +27,19 @@ abbrev pub in_time : Point → Side → ℕ → Bool
 in_time x side u = nat_lt u (x.clock side [])
 
 abbrev pub fallen : Point → Side → Outcome
-fallen x side = cond (x.rules.chance [] (opponent side)) (WonBy (opponent side)) Drawn
+fallen x side = if x.rules.chance [] (opponent side) then WonBy (opponent side) else Drawn
 
 abbrev pub answered : Point → Side → ℕ → Event
 answered x side code =
-    cond (code == 65534) (Resignation (opponent side))
-    (cond (x.rules.legal (code ∷ [])) (Move (x.rules.status (code ∷ []))) (Illegal (opponent side)))
+    if code == 65534 then Resignation (opponent side)
+    else if x.rules.legal (code ∷ []) then Move (x.rules.status (code ∷ []))
+    else Illegal (opponent side)
 
 abbrev pub event_of : Point → Side → ℕ → ℕ → Event
-event_of x side u code = cond (in_time x side u) (answered x side code) (Flag (fallen x side))
+event_of x side u code = if in_time x side u then answered x side code else Flag (fallen x side)
 
 abbrev pub turn_of : Point → Side → ℕ → ℕ → Turn
-turn_of x side u code = record { code = cond (in_time x side u) code 65535; reading = u }
+turn_of x side u code = record { code = if in_time x side u then code else 65535; reading = u }
 
 abbrev pub past_turn : Point → Side → Turn → Point
 past_turn x side t = record { rules = made x.rules t.code; clock = spent x.clock side t.reading }
