@@ -58,6 +58,7 @@ impl Part {
 }
 
 impl Fault {
+    // A `match`: variants that hold values have no discriminants.
     pub fn number(self) -> u8
         ensures { result ≡ fault_number self }
     {

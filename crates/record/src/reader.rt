@@ -24,7 +24,7 @@ fn require(holds: bool, fault: Fault) -> Result<(), Fault>
     if holds { Ok(()) } else { Err(fault) }
 }
 
-// Whether a number is one of 1 to `most`.
+// Whether a number is one of 1 to `most`: by a name, since with `contains` in the rows themselves their proof did not close.
 fn from_one(number: usize, most: usize) -> bool
     ensures { result ≡ (nat_le 1 number && nat_le number most) }
 {
@@ -72,6 +72,7 @@ fn split_parts<'a>(front: &[u8; SHORTEST], bytes: &'a [u8]) -> Result<Parts<'a>,
     ensures parts { IfOk result (λ p. PartedInto bytes.now (text_length front.now) (turns_length front.now) p.text.now p.turns.0.now p.lefts.first p.lefts.second) }
 {
     let limit = usize::from(half(front, 8));
+    // `as`, here and below: no `From` makes a `u32` a `usize`
     let text = word(front, 16) as usize;
     let turns = word(front, 24) as usize;
     require(

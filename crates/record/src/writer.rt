@@ -104,6 +104,7 @@ impl<T: Turns> Record<'_, T> {
         requires room { length (encode (content T.Turns.turns self.now)) ≤ length buffer.old }
         ensures { Lays buffer.old 0 (encode (content T.Turns.turns self.now)) buffer.new result }
     {
+        // `as`: no `From` makes a `usize` a `u32`, and `few` says that each fits
         let from = TEXT as u32;
         let text = self.text.len() as u32;
         let turns = 6 * self.turns.count() as u32;
