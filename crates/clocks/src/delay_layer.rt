@@ -21,7 +21,7 @@ impl<C: Clock + Drop> Delay<C> {
     pub fn new(below: C, delays: PerSide<u32>) -> Result<Delay<C>, Refusal>
         ensures { Answers (delay_refusal delays) (λ c. (delayed C.Clock.plan c ≡ delay_times delays (C.Clock.plan below)) × (delayed C.Clock.line c ≡ delay_times delays (C.Clock.line below))) result }
     {
-        // each side by its name: `all` over an array of the two sides would be no plainer
+        // each side by its name: an array and an `all` would stand for two comparisons
         if delays.first <= MOST_EXTRA && delays.second <= MOST_EXTRA {
             Ok(Delay { below, delays })
         } else {

@@ -18,7 +18,7 @@ pub trait Timer {
     fn left(&self) -> u32
         ensures { result ≡ line self.now [] };
 
-    // Spends a reading: true in time, false where the flag has fallen.
+    // Spends a reading: true in time, false where the flag has fallen, which is no error.
     // Each make tests the reading: a part of the trait that goes on past one in time would have a `requires`, and no public call has.
     fn spend(&mut self, reading: u32) -> bool
         ensures plan { plan self.new ≡ plan self.old }

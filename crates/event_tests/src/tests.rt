@@ -54,6 +54,7 @@ fn no_such_game(rt: HostRuntime) {
     assert_eq!(rt; game_of(17, 0, 1), None);
 }
 
+// As in other crates' tests: a crate of its own for these lines would be no plainer.
 fn alone(heap: Global, code: u16) -> Result<Alone<Script>, AllocError> {
     Ok(Alone::new(Script::new(Vec::from_slice(heap, &[code])?)))
 }

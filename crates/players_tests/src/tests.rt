@@ -8,6 +8,7 @@ use std::alloc::{AllocError, Global};
 use std::process::Abort;
 use std::test::Fail;
 
+// As in other crates' tests: a crate of its own for these lines would be no plainer.
 fn script(heap: Global, codes: &[u16]) -> Result<Script, AllocError> {
     Ok(Script::new(Vec::from_slice(heap, codes)?))
 }
