@@ -194,13 +194,17 @@ impl ConnectFour {
         self.stones.of(side).count()
     }
 
-    // Whose stone lies in a cell; none where it is free.
+    // Whose stone lies in a cell; none where it is free. By name: a `find` over the sides takes three times the instructions.
     fn holder(&self, cell: Cell) -> Option<Side>
         ensures { result ≡ find (λ side. has_stone (of_side side self.now.stones) cell) (First ∷ Second ∷ []) }
     {
-        [Side::First, Side::Second]
-            .into_iter()
-            .find(|side| self.stones.of(*side).has(cell))
+        if self.stones.first.has(cell) {
+            Some(Side::First)
+        } else if self.stones.second.has(cell) {
+            Some(Side::Second)
+        } else {
+            None
+        }
     }
 
     // Whose stone lies in a cell; none where it is free or there is no such cell.
@@ -213,7 +217,7 @@ impl ConnectFour {
     fn is_free(&self, cell: Cell) -> bool
         ensures { result ≡ not (held self.now.stones.first self.now.stones.second cell) }
     {
-        self.holder(cell).is_none()
+        !(self.stones.first.has(cell) | self.stones.second.has(cell))
     }
 
     // The lowest free cell of a column: none where it is full or there is no such column.
@@ -259,6 +263,8 @@ impl Rules for ConnectFour {
         *self = ConnectFour::new();
     }
 
+    // Inlined, since most codes that a stepper tries are refused at once.
+    #[inline]
     fn make(&mut self, code: u16) -> bool {
         let Some(cell) = self.target(code) else {
             return false;

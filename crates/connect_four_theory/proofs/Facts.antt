@@ -100,6 +100,9 @@ no_line w none = grind (arith, none, (has_line w).0)
 first_won : (f s : ℕ) → four_in_line (has_stone f) ≡ true → status_of f s ≡ Won First
 first_won f s e = simp e
 
+not_first : (f s : ℕ) → four_in_line (has_stone f) ≡ false → status_of f s ≡ cond (four_in_line (has_stone s)) (Won Second) (cond (eqb (ones f + ones s) 42) Drawn Open)
+not_first f s e = simp e
+
 second_won : (f s : ℕ) → Single f s → four_in_line (has_stone s) ≡ true → status_of f s ≡ Won Second
 second_won f s one e = grind (arith, one, e)
 
@@ -209,6 +212,13 @@ open_falls false b c r e = absurd (both_ways false refl e)
 pub open_target : (f s c : ℕ) → status_of f s ≡ Open → lowest_free (held f s) c ≡ option_map (cell c) (falls_to f s c)
 open_target f s c o = lowest (held f s) c ∙ open_falls (is_open (status_of f s)) (nat_lt c 7 && nat_lt (landing (held f s) c) 6) c (landing (held f s) c) (ap is_open o)
 
+pub falls_none : (f s c : ℕ) → None ≡ falls_to f s c → fits f s c ≡ false
+falls_none f s c e =
+    elim (cases_Bool (fits f s c)) [
+      | inl y ↦ absurd (grind (arith, y, e))
+      | inr n ↦ n
+    ]
+
 pub some_target : (f s c : ℕ) (d : Cell) → Some d ≡ option_map (cell c) (falls_to f s c) → (fits f s c ≡ true) × (d ≡ target f s c)
 some_target f s c d e =
     elim (cases_Bool (fits f s c)) [
@@ -217,6 +227,10 @@ some_target f s c d e =
     ]
 
 -- ---- the side that is meant
+
+pub on_pick : (side : Side) (f s : ℕ) → OnBoard f → OnBoard s → OnBoard (pick side f s)
+on_pick First f s a b = a
+on_pick Second f s a b = b
 
 pub on_side : (side : Side) (p : PerSide ℕ) → Settled p.first p.second → OnBoard (of_side side p)
 on_side First p ok = ok.first_on

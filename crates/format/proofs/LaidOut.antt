@@ -36,7 +36,7 @@ laid_on {A} b p xs ys h =
     ∙ append_assoc (take p b) xs (ys ++ drop (p + length (xs ++ ys)) b)
     ∙ ap (λ (y : List A). take p b ++ y) (sym (append_assoc xs ys (drop (p + length (xs ++ ys)) b)))
 
-turn_bytes_append : (ts us : List Turn) → turn_bytes (ts ++ us) ≡ turn_bytes ts ++ turn_bytes us
+pub turn_bytes_append : (ts us : List Turn) → turn_bytes (ts ++ us) ≡ turn_bytes ts ++ turn_bytes us
 turn_bytes_append [] us = refl
 turn_bytes_append (t ∷ ts) us =
     ap (λ (y : List ℕ). (half t.code ++ word t.reading) ++ y) (turn_bytes_append ts us)
@@ -63,11 +63,11 @@ joined c t n et en =
 pub laid_at_front : (b : List ℕ) (c : Content) → laid b 0 (encode c) ≡ written b c
 laid_at_front b c = ap (λ (n : ℕ). encode c ++ drop n b) (omega arith)
 
-nothing_laid : {A : Type 0} (b : List A) (p : ℕ) → b ≡ laid b p []
+pub nothing_laid : {A : Type 0} (b : List A) (p : ℕ) → b ≡ laid b p []
 nothing_laid b p = sym (ap (λ (n : ℕ). take p b ++ drop n b) (omega arith) ∙ take-append-drop p b)
 
 -- one more turn of those that are laid
-turns_more : (ts : List Turn) (i : ℕ) (d : Turn) → i < length ts → turn_bytes (take (i + 1) ts) ≡ turn_bytes (take i ts) ++ (half (get_or ts i d).code ++ word (get_or ts i d).reading)
+pub turns_more : (ts : List Turn) (i : ℕ) (d : Turn) → i < length ts → turn_bytes (take (i + 1) ts) ≡ turn_bytes (take i ts) ++ (half (get_or ts i d).code ++ word (get_or ts i d).reading)
 turns_more ts i d h = ap turn_bytes (take_more ts i d h) ∙ turn_bytes_append (take i ts) (get_or ts i d ∷ [])
 
 -- a size that four bytes can count, and one that they cannot

@@ -56,7 +56,7 @@ in_parts b long h p =
 verdict_listed : (b : List ℕ) → first_fault (head_requirements b) ≡ None → is_listed (get_or b 6 0) ≡ true
 verdict_listed b none = (all_hold (head_requirements b) none).1.1.1.1.1.1.0
 
-parted_at : (b : List ℕ) (t n : ℕ) → 44 ≤ length b → first_fault (head_requirements b) ≡ None → first_fault (pair_requirements b (text_length b) (turns_length b)) ≡ None → t ≡ text_length b → n ≡ turns_length b → PartedAt b (36 + t) (36 + t + n)
+pub parted_at : (b : List ℕ) (t n : ℕ) → 44 ≤ length b → first_fault (head_requirements b) ≡ None → first_fault (pair_requirements b (text_length b) (turns_length b)) ≡ None → t ≡ text_length b → n ≡ turns_length b → PartedAt b (36 + t) (36 + t + n)
 parted_at b t n long h none et en =
     let a = all_hold (pair_requirements b (text_length b) (turns_length b)) none in
     let p = and_parts (eqb (turns_length b % 6) 0) _ (and_parts (eqb (word_at b 20) (36 + text_length b)) _ a.1.0).1 in
@@ -72,13 +72,13 @@ parted_at b t n long h none et en =
     }
 
 -- the first fault where the head or the pairs do not hold
-head_fault_at : (b : List ℕ) (f : Found) → 44 ≤ length b → first_fault (head_requirements b) ≡ Some f → first_fault (requirements b) ≡ Some f
+pub head_fault_at : (b : List ℕ) (f : Found) → 44 ≤ length b → first_fault (head_requirements b) ≡ Some f → first_fault (requirements b) ≡ Some f
 unfolding requirements
 head_fault_at b f long e =
     let rest = pair_requirements b (text_length b) (turns_length b) ++ part_requirements b in
     fault_on (long_enough b) (head_requirements b ++ rest) (le-leb _ _ long) ∙ fault_first (head_requirements b) rest f e
 
-pair_fault_at : (b : List ℕ) (f : Found) → 44 ≤ length b → first_fault (head_requirements b) ≡ None → first_fault (pair_requirements b (text_length b) (turns_length b)) ≡ Some f → first_fault (requirements b) ≡ Some f
+pub pair_fault_at : (b : List ℕ) (f : Found) → 44 ≤ length b → first_fault (head_requirements b) ≡ None → first_fault (pair_requirements b (text_length b) (turns_length b)) ≡ Some f → first_fault (requirements b) ≡ Some f
 unfolding requirements
 pair_fault_at b f long h e =
     let pairs = pair_requirements b (text_length b) (turns_length b) in

@@ -2,13 +2,13 @@
 #![tactic(auto)]
 
 ghost use Rattle.std.specs.Prelude.{◌≡◌, ◌<◌, false, [], length};
-ghost use Rattle.std.specs.List.{list_all, range_with_len};
+ghost use Rattle.std.specs.List.{list_all, list_any, range_with_len};
 ghost use Rattle.side.specs.declared.Side.TheVariants.{First};
 ghost use Rattle.rules.specs.Machine.{OnWay};
 ghost use Rattle.rules.specs.Plans.{NoWin};
 ghost use Rattle.board.specs.Windows.{in_line};
 ghost use Rattle.gomoku_theory.specs.Gomoku.{gomoku, gomoku_from, at, start, empty, lines, stones_on, status_of, fits, shown, Counted, OneWinner, MadeBy, ShownBy};
-ghost use Rattle.gomoku_theory.specs.Search.{cell_at, columns_of, column_has, board_has, through, won_at, judged_by};
+ghost use Rattle.gomoku_theory.specs.Search.{headings, cell_at, columns_of, column_has, board_has, passes, won_at, judged_by};
 ghost use Rattle.gomoku.specs.Sought.{admits, seen};
 ghost use Rattle.gomoku.specs.declared.Sought.TheVariants.{Line};
 ghost use Rattle.gomoku_theory.proofs.Moves.{laws};
@@ -93,36 +93,54 @@ impl Sought {
             .any(|heading| self.fits_heading(points, *heading))
     }
 
-    // Whether some window of a heading fits that has a point.
-    #[tactic(auto, unfolding(gomoku_theory::specs::Search::through))]
-    fn fits_through(
+    // Whether the window of a heading fits that has a point as its j-th, if it lies on the board.
+    // Inlined, each heading has code of its own. Not inlined, or by `is_some_and`, a move takes twice the instructions and more.
+    #[inline(always)]
+    fn fits_as(
         self,
         points: &[Point; POINTS],
         heading: Heading,
         column: usize,
         row: usize,
+        j: usize,
     ) -> bool
-        requires { (column < 15) × (row < 15) }
-        ensures { result ≡ through (seen points.now self) heading column row }
+        requires { (column < 15) × ((row < 15) × (j < 5)) }
+        ensures { result ≡ passes (seen points.now self) heading column row j }
     {
-        (0..5).any(|j| {
-            Window::through(heading, column, row, j).is_some_and(|window| self.fits(points, window))
-        })
+        match Window::through(heading, column, row, j) {
+            Some(window) => self.fits(points, window),
+            None => false,
+        }
     }
 
-    // Whether some window fits that has the point of a place: 20 windows at most are looked at.
-    // By name: a loop over `HEADINGS` makes a move take twice the time, and no form may make one slower.
-    #[tactic(auto, unfolding(gomoku_theory::specs::Search::won_at))]
+    // Whether some window fits that has a point as its j-th.
+    // By name: a loop over `HEADINGS` makes a move a fifth slower.
+    fn fits_some(self, points: &[Point; POINTS], column: usize, row: usize, j: usize) -> bool
+        requires { (column < 15) × ((row < 15) × (j < 5)) }
+        ensures { result ≡ list_any (λ h. passes (seen points.now self) h column row j) headings }
+    {
+        self.fits_as(points, Heading::Upright, column, row, j)
+            || self.fits_as(points, Heading::Level, column, row, j)
+            || self.fits_as(points, Heading::Rising, column, row, j)
+            || self.fits_as(points, Heading::Falling, column, row, j)
+    }
+
+    // Whether some window fits that has a point: 20 windows at most are looked at.
+    fn fits_through(self, points: &[Point; POINTS], column: usize, row: usize) -> bool
+        requires { (column < 15) × (row < 15) }
+        ensures { result ≡ list_any (λ j. list_any (λ h. passes (seen points.now self) h column row j) headings) (range_with_len 0 5) }
+    {
+        (0..5).any(|j| self.fits_some(points, column, row, j))
+    }
+
+    // The same of the point of a place. Not inlined, so that `make` can be: it refuses most codes that a stepper tries.
+    #[inline(never)]
+    #[tactic(auto, using(crate::proofs::Near::won_by))]
     fn fits_at(self, points: &[Point; POINTS], place: usize) -> bool
         requires { place < 225 }
         ensures { result ≡ won_at (seen points.now self) place }
     {
-        let column = place % SIZE;
-        let row = place / SIZE;
-        self.fits_through(points, Heading::Upright, column, row)
-            || self.fits_through(points, Heading::Level, column, row)
-            || self.fits_through(points, Heading::Rising, column, row)
-            || self.fits_through(points, Heading::Falling, column, row)
+        self.fits_through(points, place % SIZE, place / SIZE)
     }
 }
 

@@ -27,6 +27,9 @@ module _ (T : Terms) (entries : List Entry) (g : ℕ) where
   pub rule_allowed : g < games_of T.entrants → is_going (slice_index_or entries g fresh).verdict ≡ true → rule_refusal T entries g ≡ None
   rule_allowed h e = grind (arith, nat_tests)
 
+  pub ruled_refused : (loser : Side) (n : ℕ) → rule_refusal T entries g ≡ Some n → ruled_entries T entries g loser ≡ entries
+  ruled_refused loser n e = grind (arith, nat_tests)
+
   pub ruled_allowed : (loser : Side) → rule_refusal T entries g ≡ None → ruled_entries T entries g loser ≡ slice_set entries g (ruled_entry T (slice_index_or entries g fresh) loser)
   ruled_allowed loser e = grind (arith, nat_tests)
 

@@ -1,7 +1,7 @@
 // Nim: one to eight heaps of 1 to 31 counters; who takes the last counter wins.
 #![tactic(auto)]
 
-ghost use Rattle.std.specs.Prelude.{◌≡◌, ◌-◌, ◌<◌, ◌≤◌, ◌↔◌, [], ◌++◌, length, replicate, is_some, IsTrue, IfSome};
+ghost use Rattle.std.specs.Prelude.{◌≡◌, ◌-◌, ◌<◌, ◌≤◌, ◌↔◌, [], ◌++◌, length, replicate, IsTrue, if◌then◌else◌};
 ghost use Rattle.side.specs.declared.Side.TheVariants.{First};
 ghost use Rattle.refusal.specs.Refusals.{Answers};
 ghost use Rattle.rules.specs.Plans.{Winnable};
@@ -52,28 +52,29 @@ impl Heaps {
         Heaps { sizes, left }
     }
 
-    // How many are not empty.
+    // How many are not empty. By a sum: `filter` and `count` take four times the instructions.
     fn filled(&self) -> usize
         ensures { result ≡ filled self.now.sizes }
     {
-        self.sizes.iter().filter(|h| **h > 0).count()
+        self.sizes.iter().map(|h| usize::from(*h > 0)).sum()
     }
 
-    // The heaps after a code; nothing where it takes no counter, or more than its heap holds.
-    fn after(mut self, code: u16) -> Option<Heaps>
-        ensures legal { is_some result ≡ fits self.sizes code }
-        ensures made { IfSome result (λ heaps. heaps.sizes ≡ taken self.sizes code) }
+    // Takes the counters of a code; false where it takes none, or more than its heap holds, and then nothing is taken.
+    // In place: heaps that were handed back would be copied at each code, the illegal ones too.
+    fn take(&mut self, code: u16) -> bool
+        ensures legal { result ≡ fits self.old.sizes code }
+        ensures sizes { self.new.sizes ≡ (if result then taken self.old.sizes code else self.old.sizes) }
     {
         let heap = usize::from(code / 32);
         // `as`: no `From` makes a `u16` a `u8`, and what is below 32 fits
         let take = (code % 32) as u8;
         let held = self.sizes.get(heap).copied().unwrap_or(0);
         if !(1..=held).contains(&take) {
-            return None;
+            return false;
         }
         self.sizes[heap] = held - take;
         self.left -= u16::from(take);
-        Some(self)
+        true
     }
 
     // Both sides have a chance where counters outnumber the heaps that are not empty; else the one that takes the last counter.
@@ -145,10 +146,9 @@ impl Rules for Nim {
     }
 
     fn make(&mut self, code: u16) -> bool {
-        let Some(heaps) = self.heaps.after(code) else {
+        if !self.heaps.take(code) {
             return false;
-        };
-        self.heaps = heaps;
+        }
         self.turn = self.turn.other();
         true
     }

@@ -44,7 +44,7 @@ impl HeadField {
     pub fn place(self) -> usize
         ensures { result ≡ field_place self }
     {
-        self as usize
+        self as usize // its byte in the head
     }
 }
 

@@ -99,22 +99,7 @@ impl TryFrom<u8> for Verdict {
     ghost try_from_gives = { Numbered };
 
     fn try_from(number: u8) -> Result<Verdict, Unlisted> {
-        match number {
-            11 => Ok(Verdict::Rules(Outcome::WonBy(Side::First))),
-            12 => Ok(Verdict::Rules(Outcome::WonBy(Side::Second))),
-            13 => Ok(Verdict::Rules(Outcome::Drawn)),
-            21 => Ok(Verdict::Flag(Outcome::WonBy(Side::First))),
-            22 => Ok(Verdict::Flag(Outcome::WonBy(Side::Second))),
-            23 => Ok(Verdict::Flag(Outcome::Drawn)),
-            31 => Ok(Verdict::Illegal(Side::First)),
-            32 => Ok(Verdict::Illegal(Side::Second)),
-            41 => Ok(Verdict::Resignation(Side::First)),
-            42 => Ok(Verdict::Resignation(Side::Second)),
-            53 => Ok(Verdict::TurnLimit),
-            61 => Ok(Verdict::Ruling(Side::First)),
-            62 => Ok(Verdict::Ruling(Side::Second)),
-            _ => Err(Unlisted),
-        }
+        standing_of(number)?.ok_or(Unlisted)
     }
 }
 
@@ -126,6 +111,19 @@ pub fn standing_of(number: u8) -> Result<Option<Verdict>, Unlisted>
 {
     match number {
         0 => Ok(None),
-        _ => Ok(Some(Verdict::try_from(number)?)),
+        11 => Ok(Some(Verdict::Rules(Outcome::WonBy(Side::First)))),
+        12 => Ok(Some(Verdict::Rules(Outcome::WonBy(Side::Second)))),
+        13 => Ok(Some(Verdict::Rules(Outcome::Drawn))),
+        21 => Ok(Some(Verdict::Flag(Outcome::WonBy(Side::First)))),
+        22 => Ok(Some(Verdict::Flag(Outcome::WonBy(Side::Second)))),
+        23 => Ok(Some(Verdict::Flag(Outcome::Drawn))),
+        31 => Ok(Some(Verdict::Illegal(Side::First))),
+        32 => Ok(Some(Verdict::Illegal(Side::Second))),
+        41 => Ok(Some(Verdict::Resignation(Side::First))),
+        42 => Ok(Some(Verdict::Resignation(Side::Second))),
+        53 => Ok(Some(Verdict::TurnLimit)),
+        61 => Ok(Some(Verdict::Ruling(Side::First))),
+        62 => Ok(Some(Verdict::Ruling(Side::Second))),
+        _ => Err(Unlisted),
     }
 }
